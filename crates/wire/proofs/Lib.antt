@@ -1,0 +1,2 @@
+pub mod Groupwise
+pub mod Inverse
