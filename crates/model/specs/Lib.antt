@@ -1,0 +1,5 @@
+pub mod Model
+pub mod Layout
+pub mod Sound
+pub mod Sheet
+pub mod Shapes
