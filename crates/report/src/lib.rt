@@ -1,13 +1,14 @@
-ghost use Prim.Native.Nat.{_+_, _≤_, _<_};
+ghost use Prim.Native.Nat.{ℕ, _+_, _≤_, _<_};
 ghost use Rattle.report.specs.Answers.{verdict-word, document-word, cause-values};
 ghost use Rattle.report.specs.Line.{refusal-text, first-line, report-text, row-of};
-ghost use lib.ListN.{length, take};
+ghost use lib.ListN.{length, take, getD};
 ghost use mathlib.Core.List.{_++_};
 ghost use mathlib.Core.Path.{_≡_};
 use line::Line;
 
 mod line;
 
+// What a watch comes to: the drive kept to its model, or broke it, or neither can be told.
 #[derive(Clone, Copy)]
 pub enum Verdict {
     Pass,
@@ -15,6 +16,7 @@ pub enum Verdict {
     Inconclusive,
 }
 
+// What a refusal speaks of.
 #[derive(Clone, Copy)]
 pub enum Document {
     Program,
@@ -23,6 +25,7 @@ pub enum Document {
     Watch,
 }
 
+// The rule that something breaks, by number, and where.
 #[derive(Clone, Copy)]
 pub struct Refusal {
     pub document: Document,
@@ -30,6 +33,8 @@ pub struct Refusal {
     pub place: u64,
 }
 
+// Why a watch ended: it was closed, a see or a wait broke it, the store had no place left, or
+// something was refused.
 #[derive(Clone, Copy)]
 pub enum Cause {
     Closed,
@@ -39,6 +44,7 @@ pub enum Cause {
     Refused(Refusal),
 }
 
+// How a watch ended: its verdict and cause, the items that it took, and the tick from its opening.
 #[derive(Clone, Copy)]
 pub struct Report {
     pub verdict: Verdict,
@@ -129,6 +135,20 @@ pub fn report_line(report: Report) -> [u8; 128]
         put_refusal(&mut line, refusal);
     }
     line.into_row()
+}
+
+// How many bytes of a row are its text: those before the first zero.
+pub fn text_length(row: &[u8]) -> usize
+    ensures within { λ r. ⌜ r ≤ length (now (row .entry)) ⌝ }
+    ensures no_zero_before { λ r. ⌜ ((k : ℕ) → k < r → getD (now (row .entry)) k 0 ≡ 0 → ⊥) ⌝ }
+    ensures then_zero { λ r. ⌜ (r < length (now (row .entry)) → getD (now (row .entry)) r 0 ≡ 0) ⌝ }
+{
+    for (i, byte) in row.iter().enumerate() {
+        if *byte == 0 {
+            return i;
+        }
+    }
+    row.len()
 }
 
 #[cfg(test)]
