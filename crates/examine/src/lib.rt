@@ -154,3 +154,95 @@ pub fn examine(
         Err(fault) => Err(sheet_refusal(fault)),
     }
 }
+
+#[cfg(test)]
+mod tests {
+    use super::*;
+    use std::test::*;
+
+    const BELL: [u8; 47] = [
+        1,
+        1,
+        2,
+        0,
+        1,
+        2,
+        0,
+        1,
+        0,
+        1,
+        2,
+        0,
+        1,
+        1,
+        0,
+        5,
+        4,
+        0,
+        0,
+        0,
+        1,
+        0,
+        0,
+        0,
+        0,
+        0,
+        4,
+        0,
+        0,
+        1,
+        0,
+        1,
+        2,
+        0,
+        1,
+        1,
+        1,
+        0,
+        3,
+        1,
+        0,
+        1,
+        0,
+        189,
+        132,
+        61,
+        0,
+    ];
+
+    fn is_refusal(r: Result<Tally<RecordingFault>, Refusal>, number: u8, place: u64) -> bool {
+        match r {
+            Ok(_) => false,
+            Err(refusal) => refusal.number == number && refusal.place == place,
+        }
+    }
+
+    #[test]
+    fn the_bell() -> Result<(), Fail> {
+        let mut place = Network::smallest();
+        match examine(&BELL, &[1, 0, 0, 4, 1, 1, 2], &mut place) {
+            Ok(tally) => check(tally.waits == 1 && tally.sees == 2 && tally.ticks == 4)?,
+            Err(_) => check(false)?,
+        }
+        check(place.edges().len() == 4)
+    }
+
+    #[test]
+    fn the_smallest_sheet() -> Result<(), Fail> {
+        let mut place = Network::smallest();
+        check(examine(&[1, 0, 0, 1, 0, 1, 0, 0], &[2], &mut place).is_ok())
+    }
+
+    #[test]
+    fn refusals_name_their_place() -> Result<(), Fail> {
+        let mut place = Network::smallest();
+        check(is_refusal(examine(&[], &[2], &mut place), 2, 0))?;
+        check(is_refusal(examine(&[2], &[2], &mut place), 4, 0))?;
+        check(is_refusal(examine(&[1, 128, 0], &[2], &mut place), 3, 1))?;
+        check(is_refusal(
+            examine(&[1, 0, 0, 1, 0, 1, 0, 0, 0], &[2], &mut place),
+            7,
+            8,
+        ))
+    }
+}

@@ -4,7 +4,7 @@ use mathlib.Core.Bool.{cond}
 use lib.Dec.{eqb}
 use Rattle.std.specs.declared.result.Result.{Result}
 use Rattle.std.specs.declared.result.Result.the-variants.{Ok, Err}
-use Rattle.wire.specs.Answers.{byte-rule, byte-place}
+use Rattle.wire.specs.Answers.{byte-case}
 use Rattle.wire.specs.Reading.{Outcome, taken, refused}
 use Rattle.wire.specs.declared.ByteFault.the-variants.{Ends, Form}
 use Rattle.source.specs.declared.Item.{Item}
@@ -19,23 +19,27 @@ use Rattle.source.specs.declared.recorded.RecordingFault.{RecordingFault}
 use Rattle.source.specs.declared.recorded.RecordingFault.the-variants.{Byte, FirstByte, LeftOver}
 
 -- the first byte of an item's record, and the number behind it
+abbrev pub item-case : Item → ℕ × ℕ
+item-case (Wait ticks) = (0, ticks)
+item-case (See channel) = (1, channel)
+
 abbrev pub item-kind : Item → ℕ
-item-kind (Wait ticks) = 0
-item-kind (See channel) = 1
+item-kind item = item-case item .0
 
 abbrev pub item-number : Item → ℕ
-item-number (Wait ticks) = ticks
-item-number (See channel) = channel
+item-number item = item-case item .1
+
+-- the rule that is broken, and the place that a refusal names
+abbrev pub recording-case : RecordingFault → ℕ × ℕ
+recording-case (Byte fault) = byte-case fault
+recording-case (FirstByte place) = (4, place)
+recording-case (LeftOver place) = (7, place)
 
 abbrev pub recording-rule : RecordingFault → ℕ
-recording-rule (Byte fault) = byte-rule fault
-recording-rule (FirstByte place) = 4
-recording-rule (LeftOver place) = 7
+recording-rule fault = recording-case fault .0
 
 abbrev pub recording-place : RecordingFault → ℕ
-recording-place (Byte fault) = byte-place fault
-recording-place (FirstByte place) = place
-recording-place (LeftOver place) = place
+recording-place fault = recording-case fault .1
 
 -- the fault with this rule and this place
 abbrev pub fault-of : ℕ → ℕ → RecordingFault

@@ -6,13 +6,16 @@ use Rattle.wire.specs.Reading.{Outcome, taken, refused}
 use Rattle.wire.specs.declared.ByteFault.{ByteFault}
 use Rattle.wire.specs.declared.ByteFault.the-variants.{Ends, Form}
 
+-- the rule that is broken, and the place that a refusal names
+abbrev pub byte-case : ByteFault → ℕ × ℕ
+byte-case (Ends place) = (2, place)
+byte-case (Form place) = (3, place)
+
 abbrev pub byte-rule : ByteFault → ℕ
-byte-rule (Ends place) = 2
-byte-rule (Form place) = 3
+byte-rule fault = byte-case fault .0
 
 abbrev pub byte-place : ByteFault → ℕ
-byte-place (Ends place) = place
-byte-place (Form place) = place
+byte-place fault = byte-case fault .1
 
 abbrev pub number-answer : Result (ℕ × ℕ) ByteFault → Outcome ℕ
 number-answer (Ok p) = taken (p .0) (p .1)
