@@ -6,14 +6,14 @@ ghost use mathlib.Core.List.{_++_, _∷_, []};
 ghost use mathlib.Core.Path.{_≡_};
 
 // A text under construction: `len` bytes of the row are written, and the others are zeros.
-pub struct Line {
+pub(crate) struct Line {
     row: [u8; 128],
     len: usize,
     ghost zeros: { (len ≤ 128) × (length row ≡ 128) × (drop len row ≡ replicate (128 - len) 0) },
 }
 
 impl Line {
-    pub fn new() -> Self
+    pub(crate) fn new() -> Self
         ensures empty { λ r. ⌜ r .len ≡ 0 ⌝ }
     {
         Line {
@@ -31,7 +31,7 @@ impl Line {
         self.len += 1;
     }
 
-    pub fn put(&mut self, bytes: &[u8])
+    pub(crate) fn put(&mut self, bytes: &[u8])
         requires room { ⌜ now self .len + length (now bytes) ≤ 128 ⌝ }
         ensures text { λ _. ⌜ take (now (self .exit) .len) (now (self .exit) .row) ≡ take (now (self .entry) .len) (now (self .entry) .row) ++ now (bytes .entry) ⌝ }
         ensures longer { λ _. ⌜ now (self .exit) .len ≡ now (self .entry) .len + length (now (bytes .entry)) ⌝ }
@@ -60,7 +60,7 @@ impl Line {
     }
 
     // A number behind a blank.
-    pub fn put_field(&mut self, n: u64)
+    pub(crate) fn put_field(&mut self, n: u64)
         requires room { ⌜ now self .len + 21 ≤ 128 ⌝ }
         ensures text { λ _. ⌜ take (now (self .exit) .len) (now (self .exit) .row) ≡ take (now (self .entry) .len) (now (self .entry) .row) ++ field n ⌝ }
         ensures longer { λ _. ⌜ now (self .exit) .len ≡ now (self .entry) .len + length (field n) ⌝ }
@@ -71,7 +71,7 @@ impl Line {
         self.put_number(n);
     }
 
-    pub fn into_row(self) -> [u8; 128]
+    pub(crate) fn into_row(self) -> [u8; 128]
         ensures row { λ r. ⌜ r ≡ row-of (take (self .len) (self .row)) ⌝ }
         ensures whole { λ _. ⌜ length (take (self .len) (self .row)) ≤ 128 ⌝ }
     {
