@@ -233,6 +233,70 @@ mod tests {
         check(examine(&[1, 0, 0, 1, 0, 1, 0, 0], &[2], &mut place).is_ok())
     }
 
+    fn put(sheet: &mut Vec<u8>, fields: &[u32]) -> Result<(), Fail> {
+        for field in fields {
+            let mut v = *field;
+            for _ in 0..5 {
+                if v < 128 {
+                    break;
+                }
+                sheet.push((v % 128) as u8 + 128)?;
+                v /= 128;
+            }
+            sheet.push((v % 128) as u8)?;
+        }
+        Ok(())
+    }
+
+    // Every count at its most, and every number at its longest.
+    #[test]
+    fn the_largest_sheet(rt: LibcRuntime) -> Result<(), Fail> {
+        let mut sheet = Vec::new(rt.alloc());
+        put(&mut sheet, &[1, 8, 32])?;
+        put(&mut sheet, &[2; 32])?;
+        put(&mut sheet, &[8])?;
+        for _ in 0..8 {
+            put(&mut sheet, &[1, 16])?;
+            for _ in 0..16 {
+                put(&mut sheet, &[2, 8, 1, 1_000_000, 7, 0, 999_999])?;
+            }
+        }
+        put(&mut sheet, &[128])?;
+        for _ in 0..128 {
+            put(
+                &mut sheet,
+                &[
+                    7,
+                    15,
+                    0,
+                    64,
+                    4,
+                    8,
+                    0,
+                    1,
+                    2_000_000,
+                    0,
+                    7,
+                    0,
+                    16_384,
+                    3,
+                    4,
+                    1,
+                    1_000_000,
+                    1,
+                    2,
+                    0,
+                    999_999,
+                    255,
+                ],
+            )?;
+        }
+        let mut place = Network::smallest();
+        check(sheet.len() == 5430)?;
+        check(examine(sheet.as_slice(), &[2], &mut place).is_ok())?;
+        check(place.edges().len() == 128)
+    }
+
     #[test]
     fn refusals_name_their_place() -> Result<(), Fail> {
         let mut place = Network::smallest();
