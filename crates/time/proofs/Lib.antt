@@ -1,0 +1,10 @@
+pub mod Scale
+pub mod Best
+pub mod Multiples
+pub mod Sets
+pub mod Between
+pub mod Numbers
+pub mod Marked
+pub mod MarkedSum
+pub mod WholeLaws
+pub mod SplitLaws
