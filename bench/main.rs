@@ -1,4 +1,6 @@
-//! Times the proved sheet reader beside the hand-written one, on the largest sound sheet.
+//! Times the proved code beside hand-written Rust, in one run: the sheet reader on the largest sound
+//! sheet, and the closing of matrices of three sizes in both kinds of time.
+mod closing;
 mod reader;
 
 use std::hint::black_box;
@@ -6,6 +8,8 @@ use std::time::{Duration, Instant};
 
 unsafe extern "C" {
     fn read_sheet_rounds(bytes: *const u8, len: usize, rounds: u32) -> u64;
+    fn close_whole_rounds(side: usize, rounds: u32) -> u64;
+    fn close_split_rounds(side: usize, rounds: u32) -> u64;
 }
 
 fn proved(sheet: &[u8], rounds: u32) -> u64 {
@@ -70,7 +74,7 @@ fn timed(f: fn(&[u8], u32) -> u64, sheet: &[u8], rounds: u32) -> Duration {
     took
 }
 
-fn main() {
+fn sheets() {
     let sheet = largest();
     assert_eq!(sheet.len(), 5430);
     let rounds = 2_000;
@@ -80,7 +84,39 @@ fn main() {
         best[1] = best[1].min(timed(by_hand, &sheet, rounds));
     }
     let each = |d: Duration| d.as_secs_f64() * 1e6 / f64::from(rounds);
-    println!("proved reader:       {:.2} us a sheet", each(best[0]));
-    println!("hand-written reader: {:.2} us a sheet", each(best[1]));
-    println!("ratio: {:.2}", best[0].as_secs_f64() / best[1].as_secs_f64());
+    println!(
+        "sheet reader: proved {:.2} us, by hand {:.2} us, ratio {:.2}",
+        each(best[0]),
+        each(best[1]),
+        best[0].as_secs_f64() / best[1].as_secs_f64()
+    );
+}
+
+fn closings(name: &str, proved: unsafe extern "C" fn(usize, u32) -> u64, by_hand: fn(usize, u32) -> u64) {
+    for side in [3usize, 6, 10] {
+        let rounds = 2_000_000 / (side * side * side) as u32;
+        let mut best = [Duration::MAX; 2];
+        for _ in 0..15 {
+            let start = Instant::now();
+            let a = unsafe { proved(black_box(side), rounds) };
+            best[0] = best[0].min(start.elapsed());
+            let start = Instant::now();
+            let b = by_hand(black_box(side), rounds);
+            best[1] = best[1].min(start.elapsed());
+            assert_eq!(a, b, "both close alike");
+        }
+        let rate = |d: Duration| (side * side * side) as f64 * f64::from(rounds) / d.as_secs_f64() / 1e6;
+        println!(
+            "closing, {name}, side {side}: proved {:.0} M relaxations/s, by hand {:.0} M/s, ratio of times {:.2}",
+            rate(best[0]),
+            rate(best[1]),
+            best[0].as_secs_f64() / best[1].as_secs_f64()
+        );
+    }
+}
+
+fn main() {
+    sheets();
+    closings("whole ticks", close_whole_rounds, closing::rounds::<closing::Whole>);
+    closings("split ticks", close_split_rounds, closing::rounds::<closing::Split>);
 }
