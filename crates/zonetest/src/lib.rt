@@ -91,4 +91,17 @@ mod tests {
         check(inside(&whole, &whole, 3))?;
         check(last_elapsed(&part, 3) == Some(7))
     }
+
+    #[test]
+    fn the_elapsed_clock_of_eight_clocks_is_reset() -> Result<(), Fail> {
+        let mut part = [WholeTicks::none(); 100];
+        start(&mut part, 10);
+        delay(&mut part, 10);
+        elapsed_exactly(&mut part, 10, 7);
+        check(close(&mut part, 10))?;
+        reset(&mut part, 10, 256);
+        check(last_elapsed(&part, 10) == Some(0))?;
+        check(elapsed_at(&part, 10, 0))?;
+        check(!elapsed_at(&part, 10, 7))
+    }
 }
