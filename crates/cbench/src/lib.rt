@@ -1,3 +1,5 @@
+#![tactic(auto)]
+
 use network::{Network, read_sheet};
 use time::{SplitTicks, TimeKind, WholeTicks};
 use zones::close;

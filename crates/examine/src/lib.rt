@@ -1,3 +1,5 @@
+#![tactic(auto)]
+
 ghost use Rattle.std.specs.Prelude.{◌≡◌, length};
 ghost use Rattle.examine.specs.Tallies.{capped, waits_in, sees_in, ticks_in};
 ghost use Rattle.examine.specs.Examining.{examined, examine_answer, RefusedLeaves};

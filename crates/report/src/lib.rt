@@ -1,3 +1,5 @@
+#![tactic(auto)]
+
 ghost use Rattle.std.specs.Prelude.{◌≡◌, ℕ, ◌+◌, ◌<◌, ◌≤◌, ◌++◌, length, take, ◌≢◌, slice_index};
 ghost use Rattle.report.specs.Answers.{verdict_word, document_word, cause_values};
 ghost use Rattle.report.specs.Line.{refusal_text, first_line, report_text, row_of};

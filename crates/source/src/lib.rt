@@ -1,3 +1,5 @@
+#![tactic(auto)]
+
 ghost use Rattle.std.specs.Prelude.{◌≡◌, List};
 ghost use Rattle.source.specs.declared.Item.{Item};
 ghost use Rattle.source.specs.declared.Ending.{Ending};

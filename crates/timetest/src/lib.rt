@@ -1,4 +1,6 @@
 // A third kind of time, to see that the trait can be met by a type that it was not written for.
+#![tactic(auto)]
+
 ghost use Rattle.timetest.specs.Limit.{limit_had, limit_admits, limit_reach};
 ghost use Rattle.timetest.specs.LimitLaws.{limit_laws};
 

@@ -1,5 +1,7 @@
 // Reads cases from standard input, a line each: the bytes of a sheet and of a recording in
 // hexadecimal, `-` for none. Prints for each what `inspect` comes to, on one line.
+#![tactic(auto)]
+
 use examine::{Tally, examine, recording_refusal};
 use network::Network;
 use report::{refusal_line, text_length};

@@ -1,4 +1,6 @@
 // Zones run on numbers, in both kinds of time: one clock (index 1) and the elapsed clock (index 2).
+#![tactic(auto)]
+
 #[cfg(test)]
 mod tests {
     use model::{Condition, Limit};

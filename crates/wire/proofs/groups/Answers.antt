@@ -14,11 +14,11 @@ returns-then-next-bytes c = search (rules, ends_there)
 pub returns-then-i-gt0 : goal.returns-then-i-gt0
 returns-then-i-gt0 c = search (rules, zero_last)
 
-pub overflow-mul-whole : goal.overflow-mul-whole
-overflow-mul-whole c = let m = share c.from-group.result c.loop-i.weight c.loop-i.i (omega arith) c.loop-i-test.true c.loop-i.invariant.1 in search rules
+pub overflow_mul-whole : goal.overflow_mul-whole
+overflow_mul-whole c = let m = share c.from-group.result c.loop-i.weight c.loop-i.i (omega arith) c.loop-i-test.true c.loop-i.invariant.1 in search rules
 
-pub overflow-add-whole : goal.overflow-add-whole
-overflow-add-whole c =
+pub overflow_add-whole : goal.overflow_add-whole
+overflow_add-whole c =
     let m = share c.from-group.result c.loop-i.weight c.loop-i.i (omega arith) c.loop-i-test.true c.loop-i.invariant.1 in
     let p = power_small c.loop-i.i c.loop-i-test.true in
     search rules
@@ -36,7 +36,7 @@ returns-then-group-lt128 c =
 -- a byte that goes on adds at most 127 times its weight
 module _ (c : goal.Else-group-lt128) where
   byte : c.from-group.result ≤ 255
-  byte = omega (arith, (c.type-inv.bytes c.loop-i.next).fits)
+  byte = omega (arith, (c.type_inv.bytes c.loop-i.next).fits)
 
   above : (c.from-group.result - 128) * c.loop-i.weight ≤ 127 * c.loop-i.weight
   above = mul-le-mul_right c.loop-i.weight (omega (arith, byte))
@@ -44,14 +44,14 @@ module _ (c : goal.Else-group-lt128) where
   weight : c.loop-i.weight ≤ 268435456
   weight = rw c.loop-i.invariant.1 (power_small c.loop-i.i c.loop-i-test.true)
 
-pub overflow-mul-value : goal.overflow-mul-value
-overflow-mul-value c = let a = above c in let w = weight c in search rules
+pub overflow_mul-value : goal.overflow_mul-value
+overflow_mul-value c = let a = above c in let w = weight c in search rules
 
-pub overflow-add-value : goal.overflow-add-value
-overflow-add-value c = let a = above c in let w = weight c in search rules
+pub overflow_add-value : goal.overflow_add-value
+overflow_add-value c = let a = above c in let w = weight c in search rules
 
-pub overflow-mul-weight : goal.overflow-mul-weight
-overflow-mul-weight c = let w = weight c in search rules
+pub overflow_mul-weight : goal.overflow_mul-weight
+overflow_mul-weight c = let w = weight c in search rules
 
 pub loop-i-preserved : goal.loop-i-preserved
 loop-i-preserved c =

@@ -10,5 +10,5 @@ returns c =
     record {
       reads = e;
       takes_what_is_written = λ n rest h d. e ∙ takes_what_is_written bytes at n rest h d;
-      takes_only_what_is_written = λ n next h. takes_only_what_is_written bytes at n next (λ i. (c.type-inv.bytes i).fits) (sym e ∙ h);
+      takes_only_what_is_written = λ n next h. takes_only_what_is_written bytes at n next (λ i. (c.type_inv.bytes i).fits) (sym e ∙ h);
     }

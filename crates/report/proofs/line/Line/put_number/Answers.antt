@@ -3,8 +3,8 @@ use Rattle.std.proofs.lemmas.List.{length-set}
 use Rattle.report.proofs.Digits.{digit_room, digit_more, digits_all}
 use Rattle.report.proofs.line.Line.put_number.Goals as goal
 
-pub overflow-sub-at : goal.overflow-sub-at
-overflow-sub-at c = search (rules, digit_room)
+pub overflow_sub-at : goal.overflow_sub-at
+overflow_sub-at c = search (rules, digit_room)
 
 pub loop-rest-preserved : goal.loop-rest-preserved
 loop-rest-preserved c = search (rules, digit_room, digit_more, length-set)

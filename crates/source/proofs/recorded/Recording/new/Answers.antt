@@ -6,7 +6,7 @@ use Rattle.source.proofs.recorded.Recording.new.Goals as goal
 pub returns : goal.returns
 returns c =
     let bytes = c.args.bytes.now in
-    let octets : Octets bytes = λ i. (c.type-inv.bytes i).fits in
+    let octets : Octets bytes = λ i. (c.type_inv.bytes i).fits in
     let w = c.standing-at.ensures.same_bytes in
     let p = c.standing-at.ensures.at-the-place in
     record {
