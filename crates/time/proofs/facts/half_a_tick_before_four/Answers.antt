@@ -8,7 +8,7 @@ pub returns : goal.returns
 returns c =
     let two = split_grain 2 (omega arith) in
     record {
-      two-is-a-grain = two;
-      admits-seven-halves = (c.less-than.ensures.means (omega arith)).from 2 two (pos 7) (omega (arith, ints));
-      not-eight-halves = λ a. let l : LessThan (pos 4) 2 (pos 8) = (c.less-than.ensures.means (omega arith)).to 2 two (pos 8) a in omega (arith, ints);
+      two_is_a_grain = two;
+      admits_seven_halves = (c.less_than.ensures.means (omega arith)).from 2 two (pos 7) (omega (arith, ints));
+      not_eight_halves = λ a. let l : LessThan (pos 4) 2 (pos 8) = (c.less_than.ensures.means (omega arith)).to 2 two (pos 8) a in omega (arith, ints);
     }

@@ -5,6 +5,6 @@ use Rattle.time.proofs.facts.no_half_before_four.Goals as goal
 
 pub returns : goal.returns
 returns c = record {
-  two-is-no-grain = λ h. omega (arith, h.kind_has);
-  at-most-three = same_trans (c.less-than.ensures.means (omega arith)) (whole_less (pos 4));
+  two_is_no_grain = λ h. omega (arith, h.kind_has);
+  at_most_three = same_trans (c.less_than.ensures.means (omega arith)) (whole_less (pos 4));
 }

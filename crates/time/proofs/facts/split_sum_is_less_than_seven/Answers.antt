@@ -11,8 +11,8 @@ seven = record { to = upto_sum split_had true false (pos 4) (pos 3); from = spli
 
 pub returns : goal.returns
 returns c =
-    let near-four = c.less-than.ensures.near (omega arith) in
-    let near-three = c.at-most.ensures.near (omega arith) in
+    let near-four = c.less_than.ensures.near (omega arith) in
+    let near-three = c.at_most.ensures.near (omega arith) in
     record {
-      less-than-seven = same_trans (c.sum.ensures.means (omega (arith, near-four, near-three))) (same_trans (sum_same (c.less-than.ensures.means (omega arith)) (c.at-most.ensures.means (omega arith))) seven);
+      less_than_seven = same_trans (c.sum.ensures.means (omega (arith, near-four, near-three))) (same_trans (sum_same (c.less_than.ensures.means (omega arith)) (c.at_most.ensures.means (omega arith))) seven);
     }

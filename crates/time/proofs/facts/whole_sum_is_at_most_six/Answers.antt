@@ -11,9 +11,9 @@ six = record { to = upto_sum whole_had false false (pos 3) (pos 3); from = whole
 
 pub returns : goal.returns
 returns c =
-    let near-four = c.less-than.ensures.near (omega arith) in
-    let near-three = c.at-most.ensures.near (omega arith) in
-    let three = same_trans (c.less-than.ensures.means (omega arith)) (whole_less (pos 4)) in
+    let near-four = c.less_than.ensures.near (omega arith) in
+    let near-three = c.at_most.ensures.near (omega arith) in
+    let three = same_trans (c.less_than.ensures.means (omega arith)) (whole_less (pos 4)) in
     record {
-      at-most-six = same_trans (c.sum.ensures.means (omega (arith, near-four, near-three))) (same_trans (sum_same three (c.at-most.ensures.means (omega arith))) six);
+      at_most_six = same_trans (c.sum.ensures.means (omega (arith, near-four, near-three))) (same_trans (sum_same three (c.at_most.ensures.means (omega arith))) six);
     }
