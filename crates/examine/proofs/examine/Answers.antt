@@ -8,9 +8,9 @@ pub returns-in-Err : goal.returns-in-Err
 unfolding RefusedLeaves
 returns-in-Err c =
     let fault = c.in-Err.fault in
-    let refusal = c.sheet-refusal.result in
-    let e = c.sheet-refusal.ensures in
+    let refusal = c.sheet_refusal.result in
+    let e = c.sheet_refusal.ensures in
     record {
-      first-refusal-or-tally = sheet_turned c.args.sheet.now c.args.recording.now refusal.document refusal.number refusal.place (sheet_rule fault) (sheet_place fault) c.if-sheet-gt-LONGEST.false c.if-recording-gt-LONGEST.false c.in-Err.ensures.first-refusal-or-network e.document e.number e.place;
-      refused-leaves-the-place = λ r h. c.in-Err.ensures.refused-leaves-the-place fault refl;
+      first_refusal_or_tally = sheet_turned c.args.sheet.now c.args.recording.now refusal.document refusal.number refusal.place (sheet_rule fault) (sheet_place fault) c.if-sheet-gt-LONGEST.false c.if-recording-gt-LONGEST.false c.in-Err.ensures.first_refusal_or_network e.document e.number e.place;
+      refused_leaves_the_place = λ r h. c.in-Err.ensures.refused_leaves_the_place fault refl;
     }

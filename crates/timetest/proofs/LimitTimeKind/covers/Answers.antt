@@ -8,11 +8,11 @@ returns-in-To-To c =
     let f : SFits w64 c.in-To-To.a = search rules in
     let k : SFits w64 c.in-To-To.b = search rules in
     simp (c.in-To-To.is-0, c.in-To-To.is-1) (record {
-      tells-within = record {
+      tells_within = record {
         yes = λ t. limit_covers c.in-To-To.a c.in-To-To.b (omega (arith, ints));
         no = λ w. let l = limit_covered c.in-To-To.a c.in-To-To.b w in omega (arith, ints);
       };
     })
 
 pub returns-in-To-Free : goal.returns-in-To-Free
-returns-in-To-Free c = simp (c.in-To-Free.is-0, c.in-To-Free.is-1) (record { tells-within = record { yes = λ t. elim t [ ]; no = λ w. limit_uncovered c.in-To-Free.field-0-0 w } })
+returns-in-To-Free c = simp (c.in-To-Free.is-0, c.in-To-Free.is-1) (record { tells_within = record { yes = λ t. elim t [ ]; no = λ w. limit_uncovered c.in-To-Free.field-0-0 w } })

@@ -3,8 +3,8 @@ use Rattle.std.proofs.lemmas.Fmt.{decimal_digit, length-decimal-le}
 use Rattle.std.proofs.lemmas.List.{append_assoc}
 use Rattle.report.proofs.line.Line.put_field.Goals as goal
 
-pub put-number-requires : goal.put-number-requires
-put-number-requires c = search (rules, length-decimal-le 20)
+pub put_number-requires : goal.put_number-requires
+put_number-requires c = search (rules, length-decimal-le 20)
 
 pub returns : goal.returns
 returns c =

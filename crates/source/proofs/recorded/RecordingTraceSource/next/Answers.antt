@@ -12,7 +12,7 @@ invariant_of-self c =
     let at = c.args.self.now.at in
     let item = c.in-Ok-Of_default.item in
     let behind = c.in-Ok-Of_default.behind in
-    let e : record_at bytes at ≡ taken (Of item) behind = let r = c.in-Ok-Of_default.ensures.reads-the-record in cc in
+    let e : record_at bytes at ≡ taken (Of item) behind = let r = c.in-Ok-Of_default.ensures.reads_the_record in cc in
     (omega (arith, (item_within bytes at behind item e).1), tt)
 
 pub returns-in-Ok-Of_default : goal.returns-in-Ok-Of_default
@@ -21,7 +21,7 @@ returns-in-Ok-Of_default c =
     let at = c.args.self.now.at in
     let item = c.in-Ok-Of_default.item in
     let behind = c.in-Ok-Of_default.behind in
-    let e : record_at bytes at ≡ taken (Of item) behind = let r = c.in-Ok-Of_default.ensures.reads-the-record in cc in
+    let e : record_at bytes at ≡ taken (Of item) behind = let r = c.in-Ok-Of_default.ensures.reads_the_record in cc in
     let i = items_more bytes at behind item e in
     record {
       answer = rw i;
@@ -29,7 +29,7 @@ returns-in-Ok-Of_default c =
       ending = sym (ending_more bytes at behind item e);
       stays = λ none. absurd (not_none bytes at behind item e none);
       same_bytes = refl;
-      reads-one-record = sym e;
+      reads_one_record = sym e;
     }
 
 pub returns-in-Ok-Last_default : goal.returns-in-Ok-Last_default
@@ -37,7 +37,7 @@ returns-in-Ok-Last_default c =
     let bytes = c.args.self.now.bytes.now in
     let at = c.args.self.now.at in
     let behind = c.in-Ok-Last_default.-behind in
-    let e : record_at bytes at ≡ taken Last behind = let r = c.in-Ok-Last_default.ensures.reads-the-record in cc in
+    let e : record_at bytes at ≡ taken Last behind = let r = c.in-Ok-Last_default.ensures.reads_the_record in cc in
     let i = items_last bytes at behind e in
     record {
       answer = rw (i, ending_last bytes at behind e);
@@ -45,14 +45,14 @@ returns-in-Ok-Last_default c =
       ending = refl;
       stays = λ _. refl;
       same_bytes = refl;
-      reads-one-record = sym (e ∙ ap (taken Last) (last_found bytes at behind e).1);
+      reads_one_record = sym (e ∙ ap (taken Last) (last_found bytes at behind e).1);
     }
 
 pub returns-in-Err : goal.returns-in-Err
 returns-in-Err c =
     let bytes = c.args.self.now.bytes.now in
     let at = c.args.self.now.at in
-    let e = c.in-Err.ensures.reads-the-record in
+    let e = c.in-Err.ensures.reads_the_record in
     let i = items_refused bytes at c.in-Err.fault (sym e) in
     record {
       answer = rw (i, ending_refused bytes at c.in-Err.fault (sym e));
@@ -60,5 +60,5 @@ returns-in-Err c =
       ending = refl;
       stays = λ _. refl;
       same_bytes = refl;
-      reads-one-record = e;
+      reads_one_record = e;
     }
