@@ -21,5 +21,5 @@ returns-in-To-To c =
 pub returns-in-To-Free : goal.returns-in-To-Free
 returns-in-To-Free c = simp (c.in-To-Free.is-0, c.in-To-Free.is-1) (record { means = λ p. limit_sum_free (To c.in-To-Free.field-0-0) Free (inr tt); near = λ p. omega arith })
 
-pub returns-in-Free_default : goal.returns-in-Free_default
-returns-in-Free_default c = simp c.in-Free_default.is-0 (record { means = λ p. limit_sum_free Free c.args.other (inl tt); near = λ p. omega arith })
+pub returns-in-Free-default : goal.returns-in-Free-default
+returns-in-Free-default c = simp c.in-Free-default.is-0 (record { means = λ p. limit_sum_free Free c.args.other (inl tt); near = λ p. omega arith })

@@ -10,18 +10,18 @@ pub invariant_of-self : goal.invariant_of-self
 invariant_of-self c =
     let bytes = c.args.self.now.bytes.now in
     let at = c.args.self.now.at in
-    let item = c.in-Ok-Of_default.item in
-    let behind = c.in-Ok-Of_default.behind in
-    let e : record_at bytes at ≡ taken (Of item) behind = let r = c.in-Ok-Of_default.ensures.reads_the_record in cc in
+    let item = c.in-Ok-Of-default.item in
+    let behind = c.in-Ok-Of-default.behind in
+    let e : record_at bytes at ≡ taken (Of item) behind = let r = c.in-Ok-Of-default.ensures.reads_the_record in cc in
     (omega (arith, (item_within bytes at behind item e).1), tt)
 
-pub returns-in-Ok-Of_default : goal.returns-in-Ok-Of_default
-returns-in-Ok-Of_default c =
+pub returns-in-Ok-Of-default : goal.returns-in-Ok-Of-default
+returns-in-Ok-Of-default c =
     let bytes = c.args.self.now.bytes.now in
     let at = c.args.self.now.at in
-    let item = c.in-Ok-Of_default.item in
-    let behind = c.in-Ok-Of_default.behind in
-    let e : record_at bytes at ≡ taken (Of item) behind = let r = c.in-Ok-Of_default.ensures.reads_the_record in cc in
+    let item = c.in-Ok-Of-default.item in
+    let behind = c.in-Ok-Of-default.behind in
+    let e : record_at bytes at ≡ taken (Of item) behind = let r = c.in-Ok-Of-default.ensures.reads_the_record in cc in
     let i = items_more bytes at behind item e in
     record {
       answer = rw i;
@@ -32,12 +32,12 @@ returns-in-Ok-Of_default c =
       reads_one_record = sym e;
     }
 
-pub returns-in-Ok-Last_default : goal.returns-in-Ok-Last_default
-returns-in-Ok-Last_default c =
+pub returns-in-Ok-Last-default : goal.returns-in-Ok-Last-default
+returns-in-Ok-Last-default c =
     let bytes = c.args.self.now.bytes.now in
     let at = c.args.self.now.at in
-    let behind = c.in-Ok-Last_default.-behind in
-    let e : record_at bytes at ≡ taken Last behind = let r = c.in-Ok-Last_default.ensures.reads_the_record in cc in
+    let behind = c.in-Ok-Last-default.-behind in
+    let e : record_at bytes at ≡ taken Last behind = let r = c.in-Ok-Last-default.ensures.reads_the_record in cc in
     let i = items_last bytes at behind e in
     record {
       answer = rw (i, ending_last bytes at behind e);
