@@ -13,7 +13,7 @@ invariant_of-self c =
     let item = c.in-Ok-Of-default.item in
     let behind = c.in-Ok-Of-default.behind in
     let e : record_at bytes at ≡ taken (Of item) behind = let r = c.in-Ok-Of-default.ensures.reads_the_record in cc in
-    (omega (arith, (item_within bytes at behind item e).1), tt)
+    record { within = omega (arith, (item_within bytes at behind item e).1) }
 
 pub returns-in-Ok-Of-default : goal.returns-in-Ok-Of-default
 returns-in-Ok-Of-default c =
@@ -36,7 +36,7 @@ pub returns-in-Ok-Last-default : goal.returns-in-Ok-Last-default
 returns-in-Ok-Last-default c =
     let bytes = c.args.self.now.bytes.now in
     let at = c.args.self.now.at in
-    let behind = c.in-Ok-Last-default.-behind in
+    let behind = c.in-Ok-Last-default._behind in
     let e : record_at bytes at ≡ taken Last behind = let r = c.in-Ok-Last-default.ensures.reads_the_record in cc in
     let i = items_last bytes at behind e in
     record {
