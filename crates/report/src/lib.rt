@@ -163,7 +163,7 @@ mod tests {
             count: 3,
             tick: 4,
         });
-        assert_eq!(rt; &line[0..12], b"pass 0 3 4\n\0");
+        assert_eq!(rt; &line[0..12], b"pass 0 3 4\n\0".as_slice());
     }
 
     #[test]
@@ -173,7 +173,7 @@ mod tests {
             number: 4,
             place: 0,
         });
-        assert_eq!(rt; &line[0..19], b"refused sheet 4 0\n\0");
+        assert_eq!(rt; &line[0..19], b"refused sheet 4 0\n\0".as_slice());
     }
 
     #[test]
@@ -191,11 +191,11 @@ mod tests {
         });
         assert_eq!(rt;
             &line[0..57],
-            b"inconclusive 4 18446744073709551615 18446744073709551615\n"
+            b"inconclusive 4 18446744073709551615 18446744073709551615\n".as_slice()
         );
         assert_eq!(rt;
             &line[57..101],
-            b"refused recording 255 18446744073709551615\n\0"
+            b"refused recording 255 18446744073709551615\n\0".as_slice()
         );
     }
 }
