@@ -2,8 +2,7 @@
 use Rattle.std.proofs.Common.{◌≡◌, ℕ, ◌+◌, ◌^◌, ◌<◌, List, [], ◌∷◌, sym, refl, ap, ◌∙◌, arith}
 use Rattle.source.specs.declared.Item.{Item}
 use Rattle.source.specs.declared.Ending.{Ending}
-use Rattle.source.specs.declared.Step.{Step}
-use Rattle.source.specs.declared.Step.TheVariants.{Next, Stopped}
+use Rattle.source.specs.declared.Step.TheVariants.{Stopped}
 use Rattle.source.specs.Steps.{next_of}
 use Rattle.examine.specs.Tallies.{capped, total}
 

@@ -1,6 +1,6 @@
 -- A refused sheet is the refusal of the run.
-use Rattle.std.proofs.Common.{◌≡◌, ℕ, ◌≤◌, false, ltb, List, length, sym, refl, arith}
-use Rattle.wire.specs.Reading.{Outcome, taken, refused}
+use Rattle.std.proofs.Common.{◌≡◌, ℕ, ◌≤◌, false, ltb, List, length, sym, arith}
+use Rattle.wire.specs.Reading.{refused}
 use Rattle.model.specs.Sheet.{read_sheet}
 use Rattle.report.specs.declared.Document.{Document}
 use Rattle.report.specs.declared.Document.TheVariants.{Sheet}

@@ -1,10 +1,10 @@
 -- Reading group by group: what is read so far, and what the rest makes of it.
-use Rattle.std.proofs.Common.{◌≡◌, ℕ, zero, suc, ◌+◌, ◌-◌, ◌*◌, ◌^◌, ◌<◌, ◌≤◌, Bool, true, false, cond, ltb, leb, List, [], ◌∷◌, length, get_or, drop, sym, refl, ap, ◌∙◌, mul-le-mul_right, mul_assoc, mul_comm, add-mul, mul-add, add-one, arith, drop-cons}
+use Rattle.std.proofs.Common.{◌≡◌, ℕ, zero, suc, ◌+◌, ◌-◌, ◌*◌, ◌^◌, ◌<◌, ◌≤◌, true, List, [], ◌∷◌, length, get_or, drop, sym, refl, mul-le-mul_right, mul_assoc, mul_comm, mul-add, add-one, arith, drop-cons}
 use native.Mathlib.Nat.{pow-le-pow_right}
 use Rattle.std.proofs.lemmas.List.{drop_all}
 use Rattle.std.proofs.lemmas.Nat.{pow-add}
 use Rattle.wire.specs.Numbers.{largest}
-use Rattle.wire.specs.Reading.{Outcome, taken, refused, Groups, whole, cut, endless, more, groups_in, judged, number_at, shortest}
+use Rattle.wire.specs.Reading.{taken, refused, Groups, whole, cut, endless, more, groups_in, number_at, shortest}
 
 -- `low` is the value of the i groups before
 abbrev pub shifted : ℕ → ℕ → Groups → Groups

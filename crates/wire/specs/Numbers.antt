@@ -1,5 +1,5 @@
 -- Numbers as bytes: seven bits a byte, the lowest group first, the top bit set on all but the last.
-use Rattle.std.specs.Prelude.{ℕ, zero, suc, ◌+◌, ◌/◌, ◌%◌, ◌≤◌, cond, List, [], ◌∷◌, nat_lt}
+use Rattle.std.specs.Prelude.{ℕ, zero, suc, ◌+◌, ◌/◌, ◌%◌, cond, List, [], ◌∷◌, nat_lt}
 
 -- the largest number that a document may hold
 abbrev pub largest : ℕ

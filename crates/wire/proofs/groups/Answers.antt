@@ -1,4 +1,4 @@
-use Rattle.std.proofs.Common.{◌≡◌, ℕ, ◌+◌, ◌-◌, ◌*◌, ◌^◌, ◌<◌, ◌≤◌, get_or, ◌∙◌, inl, inr, mul-le-mul_right, mul_comm, arith, rules}
+use Rattle.std.proofs.Common.{◌≡◌, ℕ, ◌-◌, ◌*◌, ◌^◌, ◌<◌, ◌≤◌, get_or, ◌∙◌, inl, inr, mul-le-mul_right, mul_comm, arith, rules}
 use Rattle.wire.proofs.Groupwise.{ends_there, goes_on, zero_last, above_largest, in_shortest_form, next_group, pow_more, power_small}
 use Rattle.wire.proofs.groups.Goals as goal
 
