@@ -1,6 +1,6 @@
 -- The writer: the bytes of a recording.
 use Rattle.std.specs.Prelude.{ℕ, ◌<◌, ◌≤◌, List, [], ◌∷◌, ◌++◌, slice_index}
-use Rattle.std.specs.List.{flat_map, AllByRecursion as All}
+use Rattle.std.specs.List.{flat_map, AllByRecursion}
 use Rattle.wire.specs.Numbers.{largest, written}
 use Rattle.source.specs.declared.Item.{Item}
 use Rattle.source.specs.Answers.{item_kind, item_number}
@@ -18,4 +18,4 @@ recording_layout items = flat_map record_bytes items ++ (2 ∷ [])
 
 -- every number can be written
 abbrev pub Writable : List Item → Type 0
-Writable items = All (λ item. item_number item ≤ largest) items
+Writable items = AllByRecursion (λ item. item_number item ≤ largest) items
