@@ -55,7 +55,6 @@ pub trait TraceSource {
 #[cfg(test)]
 mod tests {
     use super::*;
-    use std::test::Fail;
     use wire::ByteFault;
 
     fn waits<S: TraceSource>(source: &mut S, ticks: u32) -> bool {
@@ -97,32 +96,20 @@ mod tests {
     }
 
     #[test]
-    fn a_recording_that_is_cut(rt: HostRuntime) -> Result<(), Fail> {
+    fn a_recording_that_is_cut(rt: HostRuntime) {
         let mut recording = Recording::new(&[0, 5, 1]);
         assert!(rt; waits(&mut recording, 5));
         match fault(&mut recording) {
-            Some(RecordingFault::Byte(ByteFault::Ends(place))) => {
-                assert!(rt; place == 3);
-                Ok(())
-            },
-            _ => {
-                assert!(rt; false);
-                Ok(())
-            },
+            Some(RecordingFault::Byte(ByteFault::Ends(place))) => assert!(rt; place == 3),
+            _ => assert!(rt; false),
         }
     }
 
     #[test]
-    fn a_byte_behind_the_end(rt: HostRuntime) -> Result<(), Fail> {
+    fn a_byte_behind_the_end(rt: HostRuntime) {
         match fault(&mut Recording::new(&[2, 0])) {
-            Some(RecordingFault::LeftOver(place)) => {
-                assert!(rt; place == 1);
-                Ok(())
-            },
-            _ => {
-                assert!(rt; false);
-                Ok(())
-            },
+            Some(RecordingFault::LeftOver(place)) => assert!(rt; place == 1),
+            _ => assert!(rt; false),
         }
     }
 
