@@ -4,67 +4,53 @@
 #[cfg(test)]
 mod tests {
     use model::{Condition, Limit};
+    use std::process::Abort;
     use time::{SplitTicks, TimeKind, WholeTicks};
     use zones::*;
 
+    const BELOW_FOUR: [Limit; 1] = [Limit {
+        clock: 1,
+        strict: true,
+        ticks: 4,
+    }];
+
+    const ABOVE_THREE: [Condition; 1] = [Condition {
+        left: 0,
+        right: 1,
+        strict: true,
+        ticks: -3,
+    }];
+
+    fn ticks(rt: &impl Abort, count: u64) -> Ticks {
+        Ticks::new(count).expect(rt, "a count that a watch may reach")
+    }
+
     // From zero let time pass while the clock is less than 4, and then take the points at `w`.
-    fn reaches<T: TimeKind>(part: &mut [T], w: u64) -> bool {
-        if part.len() != 9 || w > 10 {
-            return false;
-        }
-        start(part, 3);
-        delay(part, 3);
-        keep_limits(
-            part,
-            3,
-            &[Limit {
-                clock: 1,
-                strict: true,
-                ticks: 4,
-            }],
-        );
-        elapsed_at_most(part, 3, 10);
-        if !close(part, 3) {
-            return false;
-        }
-        elapsed_at(part, 3, w)
+    fn reaches<T: TimeKind>(rt: &impl Abort, part: &mut [T; 9], w: u64) -> bool {
+        let mut zone = ZoneMut::over(part, 3);
+        zone.start();
+        zone.delay();
+        zone.keep_limits(&BELOW_FOUR);
+        zone.elapsed_at_most(ticks(rt, 10));
+        zone.close() && zone.seen().elapsed_at(ticks(rt, w))
     }
 
     // Whether time passes 3 before it reaches 4.
-    fn passes_three<T: TimeKind>(part: &mut [T]) -> bool {
-        if part.len() != 9 {
-            return false;
-        }
-        start(part, 3);
-        delay(part, 3);
-        keep_limits(
-            part,
-            3,
-            &[Limit {
-                clock: 1,
-                strict: true,
-                ticks: 4,
-            }],
-        );
-        meet_conditions(
-            part,
-            3,
-            &[Condition {
-                left: 0,
-                right: 1,
-                strict: true,
-                ticks: -3,
-            }],
-        );
-        close(part, 3)
+    fn passes_three<T: TimeKind>(part: &mut [T; 9]) -> bool {
+        let mut zone = ZoneMut::over(part, 3);
+        zone.start();
+        zone.delay();
+        zone.keep_limits(&BELOW_FOUR);
+        zone.meet_conditions(&ABOVE_THREE);
+        zone.close()
     }
 
     #[test]
     fn limits_stop_time(rt: HostRuntime) {
-        assert!(rt; reaches(&mut [WholeTicks::none(); 9], 3));
-        assert!(rt; !reaches(&mut [WholeTicks::none(); 9], 4));
-        assert!(rt; reaches(&mut [SplitTicks::none(); 9], 3));
-        assert!(rt; !reaches(&mut [SplitTicks::none(); 9], 4));
+        assert!(rt; reaches(&rt, &mut [WholeTicks::none(); 9], 3));
+        assert!(rt; !reaches(&rt, &mut [WholeTicks::none(); 9], 4));
+        assert!(rt; reaches(&rt, &mut [SplitTicks::none(); 9], 3));
+        assert!(rt; !reaches(&rt, &mut [SplitTicks::none(); 9], 4));
     }
 
     #[test]
@@ -75,29 +61,37 @@ mod tests {
 
     #[test]
     fn a_reset_keeps_the_elapsed_clock(rt: HostRuntime) {
+        let seven = ticks(&rt, 7);
         let mut part = [WholeTicks::none(); 9];
-        start(&mut part, 3);
-        delay(&mut part, 3);
-        elapsed_exactly(&mut part, 3, 7);
-        assert!(rt; close(&mut part, 3));
-        let whole = part;
-        reset(&mut part, 3, 1);
-        assert!(rt; elapsed_at(&part, 3, 7));
-        assert!(rt; !inside(&part, &whole, 3));
-        assert!(rt; inside(&whole, &whole, 3));
-        assert!(rt; last_elapsed(&part, 3) == Some(7));
+        let mut zone = ZoneMut::over(&mut part, 3);
+        zone.start();
+        zone.delay();
+        zone.elapsed_exactly(seven);
+        assert!(rt; zone.close());
+        let mut whole = [WholeTicks::none(); 9];
+        let mut before = ZoneMut::over(&mut whole, 3);
+        before.start();
+        before.delay();
+        before.elapsed_exactly(seven);
+        assert!(rt; before.close());
+        zone.reset(1);
+        assert!(rt; zone.seen().elapsed_at(seven));
+        assert!(rt; !zone.seen().inside(&before.seen()));
+        assert!(rt; before.seen().inside(&before.seen()));
+        assert!(rt; zone.seen().last_elapsed() == Some(7));
     }
 
     #[test]
     fn the_elapsed_clock_of_eight_clocks_is_reset(rt: HostRuntime) {
         let mut part = [WholeTicks::none(); 100];
-        start(&mut part, 10);
-        delay(&mut part, 10);
-        elapsed_exactly(&mut part, 10, 7);
-        assert!(rt; close(&mut part, 10));
-        reset(&mut part, 10, 256);
-        assert!(rt; last_elapsed(&part, 10) == Some(0));
-        assert!(rt; elapsed_at(&part, 10, 0));
-        assert!(rt; !elapsed_at(&part, 10, 7));
+        let mut zone = ZoneMut::over(&mut part, 10);
+        zone.start();
+        zone.delay();
+        zone.elapsed_exactly(ticks(&rt, 7));
+        assert!(rt; zone.close());
+        zone.reset(256);
+        assert!(rt; zone.seen().last_elapsed() == Some(0));
+        assert!(rt; zone.seen().elapsed_at(ticks(&rt, 0)));
+        assert!(rt; !zone.seen().elapsed_at(ticks(&rt, 7)));
     }
 }
