@@ -1,4 +1,2 @@
 pub mod Repeats
-pub mod Owners
-pub mod Taken
 pub mod Sheets
