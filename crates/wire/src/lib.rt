@@ -6,7 +6,7 @@ ghost use Rattle.wire.specs.Answers.{number_answer};
 ghost use Rattle.wire.specs.Inverse.{TakesWhatIsWritten, TakesOnlyWhatIsWritten};
 
 // What is wrong with the bytes of a number, with the place that a refusal names.
-#[derive(Clone, Copy)]
+#[derive(Clone, Copy, Debug, PartialEq, Eq)]
 pub enum ByteFault {
     // The bytes end before the number's last or fifth byte; the place is their length.
     Ends(usize),
