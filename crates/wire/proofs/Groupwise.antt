@@ -4,7 +4,7 @@ use native.Mathlib.Nat.{pow-le-pow_right}
 use Rattle.std.proofs.lemmas.List.{drop_all}
 use Rattle.std.proofs.lemmas.Nat.{pow-add}
 use Rattle.wire.specs.Numbers.{largest}
-use Rattle.wire.specs.Reading.{taken, refused, Groups, whole, cut, endless, more, groups_in, number_at, shortest}
+use Rattle.wire.specs.Reading.{taken, refused, Groups, whole, cut, endless, more, judged, groups_in, shortest}
 
 -- `low` is the value of the i groups before
 abbrev pub shifted : ℕ → ℕ → Groups → Groups
@@ -24,7 +24,7 @@ shifted_more i low d (whole v u) =
 shifted_more i low d cut = refl
 shifted_more i low d endless = refl
 
-shifted_none : (g : Groups) → shifted 0 0 g ≡ g
+pub shifted_none : (g : Groups) → shifted 0 0 g ≡ g
 shifted_none (whole v u) = let p : 0 + 128 ^ 0 * v ≡ v = omega arith in let q : 0 + u ≡ u = omega arith in rw (p, q)
 shifted_none cut = refl
 shifted_none endless = refl
@@ -52,46 +52,44 @@ shortest_last (suc b) i low first =
     let s : i + 1 - 1 ≡ i = omega arith in
     grind arith
 
--- a loop over the groups: i of them are read, with the value `low`, and the rest of the bytes begins at `next`
-module _ (bytes : List ℕ) (at i low next : ℕ) (inv : groups_in 5 (drop at bytes) ≡ shifted i low (groups_in (5 - i) (drop next bytes))) where
-  pub ends_there : i < 5 → length bytes ≤ next → refused 2 (length bytes) ≡ number_at bytes at
+-- a loop over the groups of a number at `at`: i of them are read, with the value `low` and the weight w of the next
+module _ (len at : ℕ) (row : List ℕ) (i low w : ℕ) (inv : groups_in 5 row ≡ shifted i low (groups_in (5 - i) (drop i row))) (weight : w ≡ 128 ^ i) where
+  pub ends_there : i < 5 → length row ≤ i → judged len at (groups_in 5 row) ≡ refused 2 len
   ends_there h e =
       let k : 5 - i ≡ suc (4 - i) = omega arith in
-      sym (rw (inv, drop_all next bytes e, k, groups_cut (4 - i)))
+      rw (inv, drop_all i row e, k, groups_cut (4 - i))
 
-  pub goes_on : i ≡ 5 → refused 3 at ≡ number_at bytes at
-  goes_on h = sym (rw (inv, h, groups_endless (drop next bytes)))
+  pub goes_on : i ≡ 5 → judged len at (groups_in 5 row) ≡ refused 3 at
+  goes_on h = let k : 5 - i ≡ 0 = omega arith in rw (inv, k, groups_endless (drop i row))
 
-  last_group : i < 5 → next < length bytes → get_or bytes next 0 < 128 → groups_in 5 (drop at bytes) ≡ whole (low + 128 ^ i * get_or bytes next 0) (i + 1)
-  last_group h l e =
-      let k : 5 - i ≡ suc (4 - i) = omega arith in
-      rw (inv, drop-cons bytes next 0 l, k, groups_last (4 - i) (get_or bytes next 0) (drop (suc next) bytes) e)
+  module _ (b : ℕ) (h : i < 5) (l : i < length row) (here : b ≡ get_or row i 0) where
+    pub next_group : 128 ≤ b → groups_in 5 row ≡ shifted (i + 1) (low + (b - 128) * w) (groups_in (5 - (i + 1)) (drop (i + 1) row))
+    next_group e =
+        let k : 5 - i ≡ suc (5 - (i + 1)) = omega arith in
+        rw (weight, inv, drop-cons row i 0 l, k, sym here, groups_more (5 - (i + 1)) b (drop (suc i) row) e, shifted_more i low (b - 128) (groups_in (5 - (i + 1)) (drop (suc i) row)), add-one i)
 
-  pub next_group : i < 5 → next < length bytes → 128 ≤ get_or bytes next 0 → groups_in 5 (drop at bytes) ≡ shifted (i + 1) (low + (get_or bytes next 0 - 128) * 128 ^ i) (groups_in (5 - (i + 1)) (drop (next + 1) bytes))
-  next_group h l e =
-      let k : 5 - i ≡ suc (5 - (i + 1)) = omega arith in
-      rw (inv, drop-cons bytes next 0 l, k, groups_more (5 - (i + 1)) (get_or bytes next 0) (drop (suc next) bytes) e, shifted_more i low (get_or bytes next 0 - 128) (groups_in (5 - (i + 1)) (drop (suc next) bytes)), add-one next)
+    last_group : b < 128 → groups_in 5 row ≡ whole (low + b * w) (i + 1)
+    last_group e =
+        let k : 5 - i ≡ suc (4 - i) = omega arith in
+        rw (weight, inv, drop-cons row i 0 l, k, sym here, groups_last (4 - i) b (drop (suc i) row) e, mul_comm (128 ^ i) b)
 
-  module _ (h : i < 5) (l : next < length bytes) (small : get_or bytes next 0 < 128) (under : low < 128 ^ i) where
-    -- the last byte adds nothing to the groups before it
-    pub zero_last : get_or bytes next 0 ≡ 0 → 0 < i → refused 3 at ≡ number_at bytes at
-    zero_last z p =
-        let s : i + 1 - 1 ≡ i = omega arith in
-        let v : low + 128 ^ i * get_or bytes next 0 ≡ low = rw z (omega arith) in
-        sym (rw (last_group h l small, v, s) (grind arith))
+    -- the number ends here
+    module _ (small : b < 128) (under : low < 128 ^ i) where
+      pub in_shortest_form : (n k : ℕ) → n ≡ low + b * w → k ≡ i → n ≤ largest → (b ≡ 0 → i ≡ 0) → judged len at (groups_in 5 row) ≡ taken n (at + k + 1)
+      in_shortest_form n k e f fits first =
+          let s : shortest n (i + 1) ≡ true = rw (e, weight) (shortest_last b i low first) in
+          let p : at + (i + 1) ≡ at + k + 1 = omega arith in
+          rw (last_group small, sym e) (grind arith)
 
-    pub above_largest : (w : ℕ) → w ≡ 128 ^ i → largest < low + get_or bytes next 0 * w → refused 3 at ≡ number_at bytes at
-    above_largest w e big =
-        let v : low + 128 ^ i * get_or bytes next 0 ≡ low + get_or bytes next 0 * w = rw e (omega (arith, mul_comm (128 ^ i) (get_or bytes next 0))) in
-        sym (rw (last_group h l small, v) (grind arith))
+      -- the last byte adds nothing to the groups before it
+      pub zero_last : b ≡ 0 → 0 < i → judged len at (groups_in 5 row) ≡ refused 3 at
+      zero_last z p =
+          let s : i + 1 - 1 ≡ i = omega arith in
+          let v : low + b * w ≡ low = rw z (omega arith) in
+          rw (last_group small, v, s) (grind arith)
 
-    pub in_shortest_form : (w : ℕ) → w ≡ 128 ^ i → low + get_or bytes next 0 * w ≤ largest → (get_or bytes next 0 ≡ 0 → i ≡ 0) → next ≡ at + i → taken (low + get_or bytes next 0 * w) (next + 1) ≡ number_at bytes at
-    in_shortest_form w e fits first n =
-        let v : low + 128 ^ i * get_or bytes next 0 ≡ low + get_or bytes next 0 * w = rw e (omega (arith, mul_comm (128 ^ i) (get_or bytes next 0))) in
-        let m : low + get_or bytes next 0 * w ≡ low + get_or bytes next 0 * 128 ^ i = rw e in
-        let s : shortest (low + get_or bytes next 0 * w) (i + 1) ≡ true = rw m (shortest_last (get_or bytes next 0) i low first) in
-        let p : next + 1 ≡ at + (i + 1) = omega arith in
-        sym (rw (last_group h l small, v) (grind arith))
+      pub above_largest : largest < low + b * w → judged len at (groups_in 5 row) ≡ refused 3 at
+      above_largest big = rw (last_group small) (grind arith)
 
 pub power_small : (i : ℕ) → i < 5 → 128 ^ i ≤ 268435456
 power_small i h = let p : i ≤ 4 = omega arith in pow-le-pow_right {n = 128} (omega arith) {i = i} {j = 4} p

@@ -109,7 +109,7 @@ accepted len at v u n next e =
 long : (v u : ℕ) → 1 < u → shortest v u ≡ true → 128 ^ (u - 1) ≤ v
 long v u h s = grind arith
 
-from_judged : (len at n next : ℕ) (g : Groups) → judged len at g ≡ taken n next → (u : ℕ) × (g ≡ whole n u) × (1 < u → 128 ^ (u - 1) ≤ n) × (n ≤ largest) × (next ≡ at + u)
+pub from_judged : (len at n next : ℕ) (g : Groups) → judged len at g ≡ taken n next → (u : ℕ) × (g ≡ whole n u) × (1 < u → 128 ^ (u - 1) ≤ n) × (n ≤ largest) × (next ≡ at + u)
 from_judged len at n next (whole v u) e =
     let x : (v ≡ n) × (at + u ≡ next) × (shortest v u ≡ true) × (leb v largest ≡ true) = accepted len at v u n next e in
     (u, rw x.0, (λ h. rw (sym x.0) (long v u h x.2)), rw (sym x.0) (omega (arith, leb-true v largest x.3)), sym x.1)

@@ -17,43 +17,30 @@ pub enum ByteFault {
 // A number has at most this many bytes.
 const MOST_BYTES: usize = 5;
 
-// The largest number that a document may hold.
-const LARGEST: u64 = 4_294_967_295;
-
-// The number whose first byte stands at `at`, and the place behind its last byte.
+// The number whose first byte stands at `at`, and the place behind its last byte: adds the groups
+// up, the lowest first, until a byte without the top bit.
 pub fn number(bytes: &[u8], at: usize) -> Result<(u32, usize), ByteFault>
     ensures reads { number_answer result ≡ number_at bytes.now at }
     ensures takes_what_is_written { TakesWhatIsWritten bytes.now at (number_answer result) }
     ensures takes_only_what_is_written { TakesOnlyWhatIsWritten bytes.now at (number_answer result) }
 {
-    groups(bytes, at)
-}
-
-// Adds the groups up, the lowest first, until a byte without the top bit.
-fn groups(bytes: &[u8], at: usize) -> Result<(u32, usize), ByteFault>
-    ensures reads { number_answer result ≡ number_at bytes.now at }
-{
+    let rest = bytes.get(at..).unwrap_or(&[]);
     let mut value = 0u64;
     let mut weight = 1u64;
-    let mut next = at;
-    for i in 0..MOST_BYTES {
-        if next >= bytes.len() {
-            return Err(ByteFault::Ends(bytes.len()));
-        }
-        let group = u64::from(bytes[next]);
-        next += 1;
+    for (i, byte) in rest.iter().take(MOST_BYTES).enumerate() {
+        let group = u64::from(*byte);
         if group < 128 {
-            if group == 0 && i > 0 {
-                return Err(ByteFault::Form(at));
-            }
-            let whole = value + group * weight;
-            if whole > LARGEST {
-                return Err(ByteFault::Form(at));
-            }
-            return Ok((whole as u32, next));
+            return match u32::try_from(value + group * weight) {
+                Ok(n) if i == 0 || group > 0 => Ok((n, at + i + 1)),
+                _ => Err(ByteFault::Form(at)),
+            };
         }
         value += (group - 128) * weight;
         weight *= 128;
     }
-    Err(ByteFault::Form(at))
+    if rest.len() < MOST_BYTES {
+        Err(ByteFault::Ends(bytes.len()))
+    } else {
+        Err(ByteFault::Form(at))
+    }
 }
