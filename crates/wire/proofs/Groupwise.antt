@@ -59,14 +59,15 @@ module _ (len at : ℕ) (row : List ℕ) (i low w : ℕ) (inv : groups_in 5 row 
       let k : 5 - i ≡ suc (4 - i) = omega arith in
       rw (inv, drop_all i row e, k, groups_cut (4 - i))
 
-  pub goes_on : i ≡ 5 → judged len at (groups_in 5 row) ≡ refused 3 at
-  goes_on h = let k : 5 - i ≡ 0 = omega arith in rw (inv, k, groups_endless (drop i row))
-
   module _ (b : ℕ) (h : i < 5) (l : i < length row) (here : b ≡ get_or row i 0) where
     pub next_group : 128 ≤ b → groups_in 5 row ≡ shifted (i + 1) (low + (b - 128) * w) (groups_in (5 - (i + 1)) (drop (i + 1) row))
     next_group e =
         let k : 5 - i ≡ suc (5 - (i + 1)) = omega arith in
         rw (weight, inv, drop-cons row i 0 l, k, sym here, groups_more (5 - (i + 1)) b (drop (suc i) row) e, shifted_more i low (b - 128) (groups_in (5 - (i + 1)) (drop (suc i) row)), add-one i)
+
+    -- the last byte that a number may have still goes on
+    pub goes_on : 128 ≤ b → i + 1 ≡ 5 → judged len at (groups_in 5 row) ≡ refused 3 at
+    goes_on e p = let k : 5 - (i + 1) ≡ 0 = omega arith in rw (next_group e, k, groups_endless (drop (i + 1) row))
 
     last_group : b < 128 → groups_in 5 row ≡ whole (low + b * w) (i + 1)
     last_group e =
@@ -75,10 +76,10 @@ module _ (len at : ℕ) (row : List ℕ) (i low w : ℕ) (inv : groups_in 5 row 
 
     -- the number ends here
     module _ (small : b < 128) (under : low < 128 ^ i) where
-      pub in_shortest_form : (n k : ℕ) → n ≡ low + b * w → k ≡ i → n ≤ largest → (b ≡ 0 → i ≡ 0) → judged len at (groups_in 5 row) ≡ taken n (at + k + 1)
-      in_shortest_form n k e f fits first =
+      pub in_shortest_form : (n : ℕ) → n ≤ largest → n ≡ low + b * w → (b ≡ 0 → i ≡ 0) → judged len at (groups_in 5 row) ≡ taken n (at + i + 1)
+      in_shortest_form n fits e first =
           let s : shortest n (i + 1) ≡ true = rw (e, weight) (shortest_last b i low first) in
-          let p : at + (i + 1) ≡ at + k + 1 = omega arith in
+          let p : at + (i + 1) ≡ at + i + 1 = omega arith in
           rw (last_group small, sym e) (grind arith)
 
       -- the last byte adds nothing to the groups before it

@@ -24,10 +24,9 @@ pub fn number(bytes: &[u8], at: usize) -> Result<(u32, usize), ByteFault>
     ensures takes_what_is_written { TakesWhatIsWritten bytes.now at (number_answer result) }
     ensures takes_only_what_is_written { TakesOnlyWhatIsWritten bytes.now at (number_answer result) }
 {
-    let rest = bytes.get(at..).unwrap_or(&[]);
     let mut value = 0u64;
     let mut weight = 1u64;
-    for (i, byte) in rest.iter().take(MOST_BYTES).enumerate() {
+    for (i, byte) in bytes.get(at..).unwrap_or(&[]).iter().enumerate() {
         let group = u64::from(*byte);
         if group < 128 {
             return match u32::try_from(value + group * weight) {
@@ -35,12 +34,11 @@ pub fn number(bytes: &[u8], at: usize) -> Result<(u32, usize), ByteFault>
                 _ => Err(ByteFault::Form(at)),
             };
         }
+        if i + 1 == MOST_BYTES {
+            return Err(ByteFault::Form(at));
+        }
         value += (group - 128) * weight;
         weight *= 128;
     }
-    if rest.len() < MOST_BYTES {
-        Err(ByteFault::Ends(bytes.len()))
-    } else {
-        Err(ByteFault::Form(at))
-    }
+    Err(ByteFault::Ends(bytes.len()))
 }

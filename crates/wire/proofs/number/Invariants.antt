@@ -1,9 +1,14 @@
-use Rattle.std.proofs.Common.{◌≡◌, ◌-◌, ◌^◌, ◌<◌, length, drop}
+use Rattle.std.proofs.Common.{◌≡◌, ◌-◌, ◌^◌, ◌<◌, drop}
 use Rattle.wire.specs.Reading.{groups_in}
 use Rattle.wire.proofs.Groupwise.{shifted}
 use Rattle.wire.proofs.number.Given as goal
 
 abbrev pub invariant-loop-i : goal.invariant-loop-i
 invariant-loop-i l =
-    let i = length l.yielded in
-    (l.rest ≡ drop l.at l.bytes) × (groups_in 5 l.rest ≡ shifted i l.value (groups_in (5 - i) (drop i l.rest))) × (l.weight ≡ 128 ^ i) × (l.value < 128 ^ i)
+    record {
+      there : l.byte-items ≡ drop l.at l.bytes;
+      few : l.i < 5;
+      so_far : groups_in 5 l.byte-items ≡ shifted l.i l.value (groups_in (5 - l.i) (drop l.i l.byte-items));
+      weight : l.weight ≡ 128 ^ l.i;
+      below : l.value < 128 ^ l.i;
+    }
