@@ -1,5 +1,5 @@
 -- Reading group by group: what is read so far, and what the rest makes of it.
-use Rattle.std.proofs.Common.{◌≡◌, ℕ, zero, suc, ◌+◌, ◌-◌, ◌*◌, ◌^◌, ◌<◌, ◌≤◌, true, List, [], ◌∷◌, length, get_or, drop, sym, refl, mul-le-mul_right, mul_assoc, mul_comm, mul-add, add-one, arith, drop-cons}
+use Rattle.std.proofs.Common.{◌≡◌, ℕ, zero, suc, ◌+◌, ◌-◌, ◌*◌, ◌%◌, ◌^◌, ◌<◌, ◌≤◌, true, List, [], ◌∷◌, length, get_or, drop, sym, refl, mul-le-mul_right, mul_assoc, mul_comm, mul-add, add-one, arith, drop-cons}
 use native.Mathlib.Nat.{pow-le-pow_right}
 use Rattle.std.proofs.lemmas.List.{drop_all}
 use Rattle.std.proofs.lemmas.Nat.{pow-add}
@@ -23,11 +23,6 @@ shifted_more i low d (whole v u) =
     rw (p, q)
 shifted_more i low d cut = refl
 shifted_more i low d endless = refl
-
-pub shifted_none : (g : Groups) → shifted 0 0 g ≡ g
-shifted_none (whole v u) = let p : 0 + 128 ^ 0 * v ≡ v = omega arith in let q : 0 + u ≡ u = omega arith in rw (p, q)
-shifted_none cut = refl
-shifted_none endless = refl
 
 pub groups_more : (k b : ℕ) (bs : List ℕ) → 128 ≤ b → groups_in (suc k) (b ∷ bs) ≡ more (b - 128) (groups_in k bs)
 unfolding groups_in
@@ -59,38 +54,43 @@ module _ (len at : ℕ) (row : List ℕ) (i low w : ℕ) (inv : groups_in 5 row 
       let k : 5 - i ≡ suc (4 - i) = omega arith in
       rw (inv, drop_all i row e, k, groups_cut (4 - i))
 
-  module _ (b : ℕ) (h : i < 5) (l : i < length row) (here : b ≡ get_or row i 0) where
-    pub next_group : 128 ≤ b → groups_in 5 row ≡ shifted (i + 1) (low + (b - 128) * w) (groups_in (5 - (i + 1)) (drop (i + 1) row))
+  -- the next byte, whose lower seven bits are g
+  module _ (g : ℕ) (octet : get_or row i 0 < 256) (lower : g ≡ get_or row i 0 % 128) (few : i < 5) (l : i < length row) where
+    pub next_group : 128 ≤ get_or row i 0 → groups_in 5 row ≡ shifted (i + 1) (low + g * w) (groups_in (5 - (i + 1)) (drop (i + 1) row))
     next_group e =
         let k : 5 - i ≡ suc (5 - (i + 1)) = omega arith in
-        rw (weight, inv, drop-cons row i 0 l, k, sym here, groups_more (5 - (i + 1)) b (drop (suc i) row) e, shifted_more i low (b - 128) (groups_in (5 - (i + 1)) (drop (suc i) row)), add-one i)
+        let d : get_or row i 0 - 128 ≡ g = omega arith in
+        rw (weight, inv, drop-cons row i 0 l, k, groups_more (5 - (i + 1)) (get_or row i 0) (drop (suc i) row) e, shifted_more i low (get_or row i 0 - 128) (groups_in (5 - (i + 1)) (drop (suc i) row)), d, add-one i)
 
     -- the last byte that a number may have still goes on
-    pub goes_on : 128 ≤ b → i + 1 ≡ 5 → judged len at (groups_in 5 row) ≡ refused 3 at
+    pub goes_on : 128 ≤ get_or row i 0 → i + 1 ≡ 5 → judged len at (groups_in 5 row) ≡ refused 3 at
     goes_on e p = let k : 5 - (i + 1) ≡ 0 = omega arith in rw (next_group e, k, groups_endless (drop (i + 1) row))
 
-    last_group : b < 128 → groups_in 5 row ≡ whole (low + b * w) (i + 1)
-    last_group e =
-        let k : 5 - i ≡ suc (4 - i) = omega arith in
-        rw (weight, inv, drop-cons row i 0 l, k, sym here, groups_last (4 - i) b (drop (suc i) row) e, mul_comm (128 ^ i) b)
-
     -- the number ends here
-    module _ (small : b < 128) (under : low < 128 ^ i) where
-      pub in_shortest_form : (n : ℕ) → n ≤ largest → n ≡ low + b * w → (b ≡ 0 → i ≡ 0) → judged len at (groups_in 5 row) ≡ taken n (at + i + 1)
+    module _ (small : get_or row i 0 < 128) (under : low < 128 ^ i) where
+      last_group : groups_in 5 row ≡ whole (low + g * w) (i + 1)
+      last_group =
+          let k : 5 - i ≡ suc (4 - i) = omega arith in
+          let d : get_or row i 0 ≡ g = omega arith in
+          rw (weight, inv, drop-cons row i 0 l, k, groups_last (4 - i) (get_or row i 0) (drop (suc i) row) small, d, mul_comm (128 ^ i) g)
+
+      pub in_shortest_form : (n : ℕ) → n ≤ largest → n ≡ low + g * w → (get_or row i 0 ≡ 0 → i ≡ 0) → judged len at (groups_in 5 row) ≡ taken n (at + i + 1)
       in_shortest_form n fits e first =
-          let s : shortest n (i + 1) ≡ true = rw (e, weight) (shortest_last b i low first) in
+          let f : g ≡ 0 → i ≡ 0 = λ z. first (omega arith) in
+          let s : shortest n (i + 1) ≡ true = rw (e, weight) (shortest_last g i low f) in
           let p : at + (i + 1) ≡ at + i + 1 = omega arith in
-          rw (last_group small, sym e) (grind arith)
+          rw (last_group, sym e) (grind arith)
 
       -- the last byte adds nothing to the groups before it
-      pub zero_last : b ≡ 0 → 0 < i → judged len at (groups_in 5 row) ≡ refused 3 at
+      pub zero_last : get_or row i 0 ≡ 0 → 0 < i → judged len at (groups_in 5 row) ≡ refused 3 at
       zero_last z p =
           let s : i + 1 - 1 ≡ i = omega arith in
-          let v : low + b * w ≡ low = rw z (omega arith) in
-          rw (last_group small, v, s) (grind arith)
+          let y : g ≡ 0 = omega arith in
+          let v : low + g * w ≡ low = rw y (omega arith) in
+          rw (last_group, v, s) (grind arith)
 
-      pub above_largest : largest < low + b * w → judged len at (groups_in 5 row) ≡ refused 3 at
-      above_largest big = rw (last_group small) (grind arith)
+      pub above_largest : largest < low + g * w → judged len at (groups_in 5 row) ≡ refused 3 at
+      above_largest big = rw last_group (grind arith)
 
 pub power_small : (i : ℕ) → i < 5 → 128 ^ i ≤ 268435456
 power_small i h = let p : i ≤ 4 = omega arith in pow-le-pow_right {n = 128} (omega arith) {i = i} {j = 4} p

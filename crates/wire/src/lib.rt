@@ -27,17 +27,19 @@ pub fn number(bytes: &[u8], at: usize) -> Result<(u32, usize), ByteFault>
     let mut value = 0u64;
     let mut weight = 1u64;
     for (i, byte) in bytes.get(at..).unwrap_or(&[]).iter().enumerate() {
-        let group = u64::from(*byte);
-        if group < 128 {
-            return match u32::try_from(value + group * weight) {
-                Ok(n) if i == 0 || group > 0 => Ok((n, at + i + 1)),
-                _ => Err(ByteFault::Form(at)),
+        value += u64::from(*byte % 128) * weight;
+        if *byte < 128 {
+            if *byte == 0 && i > 0 {
+                return Err(ByteFault::Form(at));
+            }
+            return match u32::try_from(value) {
+                Ok(n) => Ok((n, at + i + 1)),
+                Err(_) => Err(ByteFault::Form(at)),
             };
         }
         if i + 1 == MOST_BYTES {
             return Err(ByteFault::Form(at));
         }
-        value += (group - 128) * weight;
         weight *= 128;
     }
     Err(ByteFault::Ends(bytes.len()))
