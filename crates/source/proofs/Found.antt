@@ -1,14 +1,12 @@
 -- What stands where a record is read.
-use Rattle.std.proofs.Common.{◌≡◌, ℕ, zero, suc, ◌+◌, ◌-◌, ◌<◌, ◌≤◌, ◌&&◌, leb, ◌⊎◌, List, [], ◌∷◌, length, drop, sym, refl, ap, ◌∙◌, inl, inr, arith, length-drop}
+use Rattle.std.proofs.Common.{◌≡◌, ℕ, zero, suc, ◌+◌, ◌-◌, ◌<◌, ◌≤◌, ◌⊎◌, List, [], ◌∷◌, length, drop, sym, refl, ap, ◌∙◌, Option, Some, None, inl, inr, arith, length-drop}
 use Rattle.std.proofs.lemmas.List.{drop-drop}
-use Rattle.std.proofs.lemmas.Bool.{cases_eq, cases_lt, cases_cond, ne_eqb}
-use Rattle.wire.specs.Numbers.{largest}
-use Rattle.wire.specs.Reading.{Outcome, taken, refused, Groups, whole, cut, endless, more, judged, groups_in, number_at, shortest}
+use Rattle.std.proofs.lemmas.Bool.{cases_eq, cases_lt, ne_eqb}
+use Rattle.wire.specs.Reading.{Outcome, taken, refused, Groups, whole, cut, endless, more, groups_in, number_at}
+use Rattle.wire.proofs.Inverse.{from_judged}
 use Rattle.wire.proofs.Groupwise.{groups_more, groups_last, groups_cut, groups_endless}
 use Rattle.source.specs.declared.Item.{Item}
 use Rattle.source.specs.declared.Item.TheVariants.{Wait, See}
-use Rattle.source.specs.declared.recorded.Record.{Record}
-use Rattle.source.specs.declared.recorded.Record.TheVariants.{Of, Last}
 use Rattle.source.specs.Answers.{item_kind, item_number}
 use Rattle.source.specs.Reading.{item_record, last_record, record_by, record_at}
 
@@ -30,36 +28,27 @@ groups_within (suc k) (b ∷ bs) v u e =
       | inr l ↦ more_within (b - 128) bs v u (groups_in k bs) (sym (groups_more k b bs l) ∙ e) (λ v' u' e'. groups_within k bs v' u' e')
     ]
 
-from_judged : (len at n next : ℕ) (g : Groups) → judged len at g ≡ taken n next → (v : ℕ) × (u : ℕ) × (g ≡ whole v u) × (next ≡ at + u)
-from_judged len at n next (whole v u) e =
-    elim (cases_cond (shortest v u && leb v largest) (taken v (at + u)) (refused 3 at) (taken n next) (sym e)) [
-      | inl w ↦ (v, u, refl, cc)
-      | inr w ↦ let z : ◌≡◌ {A = ℕ} 0 1 = cc in absurd (omega arith)
-    ]
-from_judged len at n next cut e = let z : ◌≡◌ {A = ℕ} 0 1 = cc in absurd (omega arith)
-from_judged len at n next endless e = let z : ◌≡◌ {A = ℕ} 0 1 = cc in absurd (omega arith)
-
 number_within : (bytes : List ℕ) (at n next : ℕ) → number_at bytes at ≡ taken n next → (at < next) × (next ≤ length bytes)
 number_within bytes at n next e =
     let j = from_judged (length bytes) at n next (groups_in 5 (drop at bytes)) e in
-    let w = groups_within 5 (drop at bytes) j.0 j.1 j.2 in
-    let l : j.1 ≤ length bytes - at = rw (length-drop at bytes) at w.1 in
-    (omega (arith, w.0, j.3), omega (arith, w.0, j.3))
+    let w = groups_within 5 (drop at bytes) n j.0 j.1 in
+    let l : j.0 ≤ length bytes - at = rw (length-drop at bytes) at w.1 in
+    (omega (arith, w.0, j.4), omega (arith, w.0, j.4))
 
-from_number : (item : ℕ → Item) (o : Outcome ℕ) (i : Item) (next : ℕ) → item_record item o ≡ taken (Of i) next → (n : ℕ) × (o ≡ taken n next) × (item n ≡ i)
+from_number : (item : ℕ → Item) (o : Outcome ℕ) (i : Item) (next : ℕ) → item_record item o ≡ taken (Some i) next → (n : ℕ) × (o ≡ taken n next) × (item n ≡ i)
 from_number item (taken n p) i next e = (n, cc, cc)
 from_number item (refused rule place) i next e = let z : ◌≡◌ {A = ℕ} 0 1 = cc in absurd (omega arith)
 
-no_last_number : (item : ℕ → Item) (o : Outcome ℕ) (next : ℕ) → item_record item o ≡ taken Last next → ⊥
+no_last_number : (item : ℕ → Item) (o : Outcome ℕ) (next : ℕ) → item_record item o ≡ taken None next → ⊥
 no_last_number item (taken n p) next e = let z : ◌≡◌ {A = ℕ} 0 1 = cc in omega arith
 no_last_number item (refused rule place) next e = let z : ◌≡◌ {A = ℕ} 0 1 = cc in omega arith
 
-from_last : (p : ℕ) (rest : List ℕ) (r : Record) (next : ℕ) → last_record p rest ≡ taken r next → (rest ≡ []) × (r ≡ Last) × (next ≡ p)
+from_last : (p : ℕ) (rest : List ℕ) (r : Option Item) (next : ℕ) → last_record p rest ≡ taken r next → (rest ≡ []) × (r ≡ None) × (next ≡ p)
 from_last p [] r next e = (refl, cc, cc)
 from_last p (b ∷ rest) r next e = let z : ◌≡◌ {A = ℕ} 0 1 = cc in absurd (omega arith)
 
 -- the first byte of a record that is read
-module _ (bytes : List ℕ) (at b : ℕ) (rest : List ℕ) (r : Record) (next : ℕ) (e : record_by bytes at (b ∷ rest) ≡ taken r next) where
+module _ (bytes : List ℕ) (at b : ℕ) (rest : List ℕ) (r : Option Item) (next : ℕ) (e : record_by bytes at (b ∷ rest) ≡ taken r next) where
   first_byte : ((b ≡ 0) × (item_record Wait (number_at bytes (at + 1)) ≡ taken r next)) ⊎ (((b ≡ 1) × (item_record See (number_at bytes (at + 1)) ≡ taken r next)) ⊎ ((b ≡ 2) × (last_record (at + 1) rest ≡ taken r next)))
   first_byte =
       elim (cases_eq b 0) [
@@ -70,43 +59,43 @@ module _ (bytes : List ℕ) (at b : ℕ) (rest : List ℕ) (r : Record) (next : 
               | inr n1 ↦
                   elim (cases_eq b 2) [
                     | inl z ↦ inr (inr (z, rw z at e))
-                    | inr n2 ↦ let f : ◌≡◌ {A = Outcome Record} (refused 4 at) (taken r next) = rw (ne_eqb b 0 n0, ne_eqb b 1 n1, ne_eqb b 2 n2) at e in let z : ◌≡◌ {A = ℕ} 0 1 = cc in absurd (omega arith)
+                    | inr n2 ↦ let f : ◌≡◌ {A = Outcome (Option Item)} (refused 4 at) (taken r next) = rw (ne_eqb b 0 n0, ne_eqb b 1 n1, ne_eqb b 2 n2) at e in let z : ◌≡◌ {A = ℕ} 0 1 = cc in absurd (omega arith)
                   ]
             ]
       ]
 
-item_by : (bytes : List ℕ) (at next : ℕ) (i : Item) (front : List ℕ) → record_by bytes at front ≡ taken (Of i) next → (rest : List ℕ) × (front ≡ item_kind i ∷ rest) × (number_at bytes (at + 1) ≡ taken (item_number i) next)
+item_by : (bytes : List ℕ) (at next : ℕ) (i : Item) (front : List ℕ) → record_by bytes at front ≡ taken (Some i) next → (rest : List ℕ) × (front ≡ item_kind i ∷ rest) × (number_at bytes (at + 1) ≡ taken (item_number i) next)
 item_by bytes at next i [] e = let z : ◌≡◌ {A = ℕ} 0 1 = cc in absurd (omega arith)
 item_by bytes at next i (b ∷ rest) e =
-    elim (first_byte bytes at b rest (Of i) next e) [
+    elim (first_byte bytes at b rest (Some i) next e) [
       | inl w ↦ let f = from_number Wait (number_at bytes (at + 1)) i next w.1 in (rest, ap (λ (k : ℕ). k ∷ rest) (w.0 ∙ ap item_kind f.2), f.1 ∙ ap (λ (j : Item). taken (item_number j) next) f.2)
       | inr v ↦
           elim v [
             | inl w ↦ let f = from_number See (number_at bytes (at + 1)) i next w.1 in (rest, ap (λ (k : ℕ). k ∷ rest) (w.0 ∙ ap item_kind f.2), f.1 ∙ ap (λ (j : Item). taken (item_number j) next) f.2)
-            | inr w ↦ let f = from_last (at + 1) rest (Of i) next w.1 in let g : Of i ≡ Last = f.1 in let z : ◌≡◌ {A = ℕ} 0 1 = cc in absurd (omega arith)
+            | inr w ↦ let f = from_last (at + 1) rest (Some i) next w.1 in let g : Some i ≡ None = f.1 in let z : ◌≡◌ {A = ℕ} 0 1 = cc in absurd (omega arith)
           ]
     ]
 
-last_by : (bytes : List ℕ) (at next : ℕ) (front : List ℕ) → record_by bytes at front ≡ taken Last next → (front ≡ 2 ∷ []) × (next ≡ at + 1)
+last_by : (bytes : List ℕ) (at next : ℕ) (front : List ℕ) → record_by bytes at front ≡ taken None next → (front ≡ 2 ∷ []) × (next ≡ at + 1)
 last_by bytes at next [] e = let z : ◌≡◌ {A = ℕ} 0 1 = cc in absurd (omega arith)
 last_by bytes at next (b ∷ rest) e =
-    elim (first_byte bytes at b rest Last next e) [
+    elim (first_byte bytes at b rest None next e) [
       | inl w ↦ absurd (no_last_number Wait (number_at bytes (at + 1)) next w.1)
       | inr v ↦
           elim v [
             | inl w ↦ absurd (no_last_number See (number_at bytes (at + 1)) next w.1)
-            | inr w ↦ let f = from_last (at + 1) rest Last next w.1 in (rw (w.0, f.0), f.2)
+            | inr w ↦ let f = from_last (at + 1) rest None next w.1 in (rw (w.0, f.0), f.2)
           ]
     ]
 
 module _ (bytes : List ℕ) (at next : ℕ) where
-  pub item_found : (i : Item) → record_at bytes at ≡ taken (Of i) next → (drop at bytes ≡ item_kind i ∷ drop (at + 1) bytes) × (number_at bytes (at + 1) ≡ taken (item_number i) next)
+  pub item_found : (i : Item) → record_at bytes at ≡ taken (Some i) next → (drop at bytes ≡ item_kind i ∷ drop (at + 1) bytes) × (number_at bytes (at + 1) ≡ taken (item_number i) next)
   item_found i e =
       let f = item_by bytes at next i (drop at bytes) e in
       (f.1 ∙ ap (λ rest. item_kind i ∷ rest) (tail_is bytes at (item_kind i) f.0 f.1), f.2)
 
-  pub item_within : (i : Item) → record_at bytes at ≡ taken (Of i) next → (at < next) × (next ≤ length bytes)
+  pub item_within : (i : Item) → record_at bytes at ≡ taken (Some i) next → (at < next) × (next ≤ length bytes)
   item_within i e = let w = number_within bytes (at + 1) (item_number i) next (item_found i e).1 in (omega (arith, w.0), w.1)
 
-  pub last_found : record_at bytes at ≡ taken Last next → (drop at bytes ≡ 2 ∷ []) × (next ≡ at + 1)
+  pub last_found : record_at bytes at ≡ taken None next → (drop at bytes ≡ 2 ∷ []) × (next ≡ at + 1)
   last_found e = last_by bytes at next (drop at bytes) e

@@ -1,9 +1,8 @@
 -- The record at a place, by the bytes from there on as the code has them.
-use Rattle.std.proofs.Common.{◌≡◌, ℕ, ◌+◌, ◌-◌, ◌<◌, ◌≤◌, List, ◌∷◌, length, get_or, take, drop, sym, refl, ◌∙◌, add-zero, arith, length-drop}
+use Rattle.std.proofs.Common.{◌≡◌, ℕ, ◌+◌, ◌-◌, ◌<◌, ◌≤◌, List, ◌∷◌, length, None, get_or, take, drop, sym, refl, ◌∙◌, add-zero, arith, length-drop}
 use Rattle.std.proofs.lemmas.List.{take_rest, drop_all, drop-drop, drop_more, get_or-drop}
 use Rattle.std.proofs.lemmas.Bool.{ne_eqb}
 use Rattle.wire.specs.Reading.{taken, refused}
-use Rattle.source.specs.declared.recorded.Record.TheVariants.{Last}
 use Rattle.source.specs.Reading.{record_at, record_by}
 
 -- `&bytes[at..]`
@@ -35,7 +34,7 @@ module _ (bytes : List ℕ) (at : ℕ) where
       let p : length bytes - length (behind (front bytes at)) ≡ at + 1 = rw (behind_is, length-drop (at + 1) bytes) (omega arith) in
       sym (there 2 (omega arith) e ∙ rw (p, drop_more bytes (at + 1) 0 l))
 
-  pub last_there : length (front bytes at) ≡ 1 → get_or (front bytes at) 0 0 ≡ 2 → taken Last (length bytes) ≡ record_at bytes at
+  pub last_there : length (front bytes at) ≡ 1 → get_or (front bytes at) 0 0 ≡ 2 → taken None (length bytes) ≡ record_at bytes at
   last_there h e =
       let p : length bytes ≡ at + 1 = omega (arith, rw (take_rest bytes at, length-drop at bytes) at h) in
       sym (there 2 (omega arith) e ∙ rw (drop_all (at + 1) bytes (omega arith), p))

@@ -1,12 +1,9 @@
 -- The trace of a recording, record by record.
-use Rattle.std.proofs.Common.{◌≡◌, ℕ, zero, suc, ◌+◌, ◌<◌, List, [], ◌∷◌, length, sym, refl, ap, ◌∙◌, arith}
+use Rattle.std.proofs.Common.{◌≡◌, ℕ, zero, suc, ◌+◌, ◌<◌, List, [], ◌∷◌, length, Option, Some, None, Ok, Err, sym, refl, ap, ◌∙◌, arith}
 use Rattle.std.proofs.lemmas.List.{drop_all}
 use Rattle.wire.specs.Reading.{Outcome, taken, refused}
 use Rattle.wire.specs.declared.ByteFault.TheVariants.{Ends, Form}
 use Rattle.source.specs.declared.Item.{Item}
-use Rattle.source.specs.declared.Ending.TheVariants.{End, Fault}
-use Rattle.source.specs.declared.recorded.Record.{Record}
-use Rattle.source.specs.declared.recorded.Record.TheVariants.{Of, Last}
 use Rattle.source.specs.declared.recorded.RecordingFault.{RecordingFault}
 use Rattle.source.specs.declared.recorded.RecordingFault.TheVariants.{Byte, FirstByte, LeftOver}
 use Rattle.source.specs.Answers.{recording_rule, recording_place, fault_of}
@@ -19,9 +16,9 @@ fault_again (Byte (Form place)) = refl
 fault_again (FirstByte place) = refl
 fault_again (LeftOver place) = refl
 
-by_record : (o : Outcome Record) (X Y : ℕ → Trace) → ((i : Item) (next : ℕ) → o ≡ taken (Of i) next → X next ≡ Y next) → trace_by o X ≡ trace_by o Y
-by_record (taken (Of i) next) X Y same = rw (same i next refl)
-by_record (taken Last next) X Y same = refl
+by_record : (o : Outcome (Option Item)) (X Y : ℕ → Trace) → ((i : Item) (next : ℕ) → o ≡ taken (Some i) next → X next ≡ Y next) → trace_by o X ≡ trace_by o Y
+by_record (taken (Some i) next) X Y same = rw (same i next refl)
+by_record (taken None next) X Y same = refl
 by_record (refused rule place) X Y same = refl
 
 module _ (bytes : List ℕ) where
@@ -39,22 +36,22 @@ module _ (bytes : List ℕ) where
       by_record (record_at bytes at) (trace_from n bytes) (trace_from m bytes) (λ i next e. let w = item_within bytes at next i e in enough n m next (omega (arith, w.0)) (omega (arith, w.0)))
 
   module _ (at : ℕ) where
-    trace_more : (next : ℕ) (i : Item) → record_at bytes at ≡ taken (Of i) next → trace_at bytes at ≡ record { items = i ∷ (trace_at bytes next).items; ending = (trace_at bytes next).ending }
+    trace_more : (next : ℕ) (i : Item) → record_at bytes at ≡ taken (Some i) next → trace_at bytes at ≡ record { items = i ∷ (trace_at bytes next).items; ending = (trace_at bytes next).ending }
     unfolding trace_at trace_from
     trace_more next i e =
         let w = item_within bytes at next i e in
         rw (e, enough (length bytes) (suc (length bytes)) next (omega (arith, w.0)) (omega arith))
 
-    trace_last : (next : ℕ) → record_at bytes at ≡ taken Last next → trace_at bytes at ≡ record { items = []; ending = End }
+    trace_last : (next : ℕ) → record_at bytes at ≡ taken None next → trace_at bytes at ≡ record { items = []; ending = (Ok tt) }
     unfolding trace_at trace_from
     trace_last next e = rw e
 
-    trace_refused : (rule place : ℕ) → record_at bytes at ≡ refused rule place → trace_at bytes at ≡ record { items = []; ending = Fault (fault_of rule place) }
+    trace_refused : (rule place : ℕ) → record_at bytes at ≡ refused rule place → trace_at bytes at ≡ record { items = []; ending = Err (fault_of rule place) }
     unfolding trace_at trace_from
     trace_refused rule place e = rw e
 
     -- an item comes first
-    module _ (next : ℕ) (i : Item) (e : record_at bytes at ≡ taken (Of i) next) where
+    module _ (next : ℕ) (i : Item) (e : record_at bytes at ≡ taken (Some i) next) where
       pub items_more : items_at bytes at ≡ i ∷ items_at bytes next
       unfolding items_at
       items_more = ap (λ (t : Trace). t.items) (trace_more next i e)
@@ -70,12 +67,12 @@ module _ (bytes : List ℕ) where
           omega arith
 
     -- the last record comes first
-    module _ (next : ℕ) (e : record_at bytes at ≡ taken Last next) where
+    module _ (next : ℕ) (e : record_at bytes at ≡ taken None next) where
       pub items_last : items_at bytes at ≡ []
       unfolding items_at
       items_last = ap (λ (t : Trace). t.items) (trace_last next e)
 
-      pub ending_last : ending_at bytes at ≡ End
+      pub ending_last : ending_at bytes at ≡ (Ok tt)
       unfolding ending_at
       ending_last = ap (λ (t : Trace). t.ending) (trace_last next e)
 
@@ -85,6 +82,6 @@ module _ (bytes : List ℕ) where
       unfolding items_at
       items_refused = ap (λ (t : Trace). t.items) (trace_refused (recording_rule f) (recording_place f) e)
 
-      pub ending_refused : ending_at bytes at ≡ Fault f
+      pub ending_refused : ending_at bytes at ≡ Err f
       unfolding ending_at
-      ending_refused = ap (λ (t : Trace). t.ending) (trace_refused (recording_rule f) (recording_place f) e) ∙ ap Fault (fault_again f)
+      ending_refused = ap (λ (t : Trace). t.ending) (trace_refused (recording_rule f) (recording_place f) e) ∙ ap Err (fault_again f)

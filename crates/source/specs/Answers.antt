@@ -1,16 +1,10 @@
 -- Each case of the answers, by its number and its values.
-use Rattle.std.specs.Prelude.{ℕ, ◌+◌, cond, Ok, Err, Result, ◌==◌}
+use Rattle.std.specs.Prelude.{ℕ, ◌+◌, cond, Option, Some, None, Ok, Err, Result, ◌==◌}
 use Rattle.wire.specs.Answers.{byte_case}
 use Rattle.wire.specs.Reading.{Outcome, taken, refused}
 use Rattle.wire.specs.declared.ByteFault.TheVariants.{Ends, Form}
 use Rattle.source.specs.declared.Item.{Item}
 use Rattle.source.specs.declared.Item.TheVariants.{Wait, See}
-use Rattle.source.specs.declared.Ending.{Ending}
-use Rattle.source.specs.declared.Ending.TheVariants.{End, Fault}
-use Rattle.source.specs.declared.Step.{Step}
-use Rattle.source.specs.declared.Step.TheVariants.{Next, Stopped}
-use Rattle.source.specs.declared.recorded.Record.{Record}
-use Rattle.source.specs.declared.recorded.Record.TheVariants.{Of, Last}
 use Rattle.source.specs.declared.recorded.RecordingFault.{RecordingFault}
 use Rattle.source.specs.declared.recorded.RecordingFault.TheVariants.{Byte, FirstByte, LeftOver}
 
@@ -41,16 +35,18 @@ recording_place fault = (recording_case fault).1
 abbrev pub fault_of : ℕ → ℕ → RecordingFault
 fault_of rule place = cond (rule == 2) (Byte (Ends place)) (cond (rule == 3) (Byte (Form place)) (cond (rule == 4) (FirstByte place) (LeftOver place)))
 
-abbrev pub record_answer : Result (Record × ℕ) RecordingFault → Outcome Record
+-- the record that is read, an item's or the last one, and the place behind it
+abbrev pub record_answer : Result (Option Item × ℕ) RecordingFault → Outcome (Option Item)
 record_answer (Ok p) = taken p.0 p.1
 record_answer (Err fault) = refused (recording_rule fault) (recording_place fault)
 
 -- an ending is what the record behind the items comes to: the last one, with the place behind it, or a refusal
-abbrev pub ending_answer : ℕ → Ending RecordingFault → Outcome Record
-ending_answer behind End = taken Last behind
-ending_answer behind (Fault fault) = refused (recording_rule fault) (recording_place fault)
+abbrev pub ending_answer : ℕ → Result (Unit {0}) RecordingFault → Outcome (Option Item)
+ending_answer behind (Ok _) = taken None behind
+ending_answer behind (Err fault) = refused (recording_rule fault) (recording_place fault)
 
 -- a step of a recording that stands at this position after it
-abbrev pub step_answer : ℕ → Step RecordingFault → Outcome Record
-step_answer position (Next item) = taken (Of item) position
-step_answer position (Stopped ending) = ending_answer (position + 1) ending
+abbrev pub step_answer : ℕ → Result (Option Item) RecordingFault → Outcome (Option Item)
+step_answer position (Ok (Some item)) = taken (Some item) position
+step_answer position (Ok None) = ending_answer (position + 1) (Ok tt)
+step_answer position (Err fault) = ending_answer (position + 1) (Err fault)

@@ -5,11 +5,11 @@ ghost use Rattle.source.specs.Reading.{record_at, items_at, ending_at};
 ghost use Rattle.source.specs.Steps.{next_of, rest_of};
 ghost use Rattle.source.specs.Closing.{ClosesBehindItsItems, EndsOnlyAsLaidOut, EndsAsLaidOut};
 
-use crate::{Ending, Item, Step, TraceSource};
+use crate::{Item, TraceSource};
 use wire::{ByteFault, number};
 
 // Why a recording is refused, with the place that the refusal names.
-#[derive(Clone, Copy)]
+#[derive(Clone, Copy, Debug, PartialEq, Eq)]
 pub enum RecordingFault {
     // A number is at fault, or the bytes end before a record's first byte.
     Byte(ByteFault),
@@ -25,12 +25,6 @@ impl From<ByteFault> for RecordingFault {
     fn from(fault: ByteFault) -> RecordingFault {
         RecordingFault::Byte(fault)
     }
-}
-
-#[derive(Clone, Copy)]
-enum Record {
-    Of(Item),
-    Last,
 }
 
 // The bytes of a recording, read where they are.
@@ -50,16 +44,7 @@ impl<'a> Recording<'a> {
         ensures ends_only_as_laid_out { EndsOnlyAsLaidOut bytes.now (items_at result.bytes.now result.at) (ending_at result.bytes.now result.at) }
         ensures ends_as_laid_out { EndsAsLaidOut bytes.now (items_at result.bytes.now result.at) (ending_at result.bytes.now result.at) }
     {
-        Recording::standing_at(bytes, 0)
-    }
-
-    // A call of its own, since passing the slice on is what tells a proof that its numbers are bytes.
-    fn standing_at(bytes: &'a [u8], at: usize) -> Recording<'a>
-        requires within { at ≤ length bytes.now }
-        ensures same_bytes { result.bytes.now ≡ bytes.now }
-        ensures at_the_place { result.at ≡ at }
-    {
-        Recording { bytes, at }
+        Recording { bytes, at: 0 }
     }
 
     // The place of the first byte that no answered item holds.
@@ -69,8 +54,8 @@ impl<'a> Recording<'a> {
         self.at
     }
 
-    // The record at the position, and the place behind it.
-    fn record(&self) -> Result<(Record, usize), RecordingFault>
+    // The item of the record at the position, none at the last one, and the place behind it.
+    fn record(&self) -> Result<(Option<Item>, usize), RecordingFault>
         ensures reads_the_record { record_answer result ≡ record_at self.now.bytes.now self.now.at }
     {
         // A `rest` begins where the whole without it ends.
@@ -78,13 +63,13 @@ impl<'a> Recording<'a> {
         match &self.bytes[self.at..] {
             [0, rest @ ..] => {
                 let (ticks, behind) = number(self.bytes, whole - rest.len())?;
-                Ok((Record::Of(Item::Wait(ticks)), behind))
+                Ok((Some(Item::Wait(ticks)), behind))
             }
             [1, rest @ ..] => {
                 let (channel, behind) = number(self.bytes, whole - rest.len())?;
-                Ok((Record::Of(Item::See(channel)), behind))
+                Ok((Some(Item::See(channel)), behind))
             }
-            [2] => Ok((Record::Last, whole)),
+            [2] => Ok((None, whole)),
             [2, rest @ ..] => Err(RecordingFault::LeftOver(whole - rest.len())),
             [_, ..] => Err(RecordingFault::FirstByte(self.at)),
             [] => Err(RecordingFault::Byte(ByteFault::Ends(whole))),
@@ -99,7 +84,7 @@ impl TraceSource for Recording<'_> {
 
     ghost ending = { λ q. ending_at q.bytes.now q.at };
 
-    fn next(&mut self) -> Step<RecordingFault>
+    fn next(&mut self) -> Result<Option<Item>, RecordingFault>
         ensures answer { result ≡ next_of (items_at self.old.bytes.now self.old.at) (ending_at self.old.bytes.now self.old.at) }
         ensures rest { items_at self.new.bytes.now self.new.at ≡ rest_of (items_at self.old.bytes.now self.old.at) }
         ensures ending { ending_at self.new.bytes.now self.new.at ≡ ending_at self.old.bytes.now self.old.at }
@@ -107,13 +92,10 @@ impl TraceSource for Recording<'_> {
         ensures same_bytes { self.new.bytes.now ≡ self.old.bytes.now }
         ensures reads_one_record { step_answer self.new.at result ≡ record_at self.old.bytes.now self.old.at }
     {
-        match self.record() {
-            Ok((Record::Of(item), behind)) => {
-                self.at = behind;
-                Step::Next(item)
-            }
-            Ok((Record::Last, _behind)) => Step::Stopped(Ending::End),
-            Err(fault) => Step::Stopped(Ending::Fault(fault)),
+        let (item, behind) = self.record()?;
+        if item.is_some() {
+            self.at = behind;
         }
+        Ok(item)
     }
 }
