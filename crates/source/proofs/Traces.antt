@@ -63,8 +63,7 @@ module _ (bytes : List ℕ) where
       pub not_none : items_at bytes at ≡ [] → ⊥
       not_none none =
           let some : i ∷ items_at bytes next ≡ [] = sym items_more ∙ none in
-          let z : ◌≡◌ {A = ℕ} 0 1 = cc in
-          omega arith
+          grind arith
 
     -- the last record comes first
     module _ (next : ℕ) (e : record_at bytes at ≡ taken None next) where

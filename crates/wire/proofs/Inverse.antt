@@ -82,13 +82,13 @@ more_again k b bs v u (whole v' u') g small l e s again =
     let n : 128 + (b - 128) ≡ b = omega arith in
     let z : groups_of (suc k) v ≡ b ∷ groups_of k v' = rw (of_more k v big, m, d, n) in
     (omega arith, rw (z, sym y) (ap (λ xs. b ∷ xs) r.1), rw (z, sym y) (ap suc r.2))
-more_again k b bs v u cut g small l e s again = let z : ◌≡◌ {A = ℕ} 0 1 = cc in absurd (omega arith)
-more_again k b bs v u endless g small l e s again = let z : ◌≡◌ {A = ℕ} 0 1 = cc in absurd (omega arith)
+more_again k b bs v u cut g small l e s again = absurd (grind arith)
+more_again k b bs v u endless g small l e s again = absurd (grind arith)
 
 -- groups in shortest form are those of their value
 written_again : (k : ℕ) (bs : List ℕ) (v u : ℕ) → ((i : ℕ) → get_or bs i 0 < 256) → groups_in k bs ≡ whole v u → (1 < u → 128 ^ (u - 1) ≤ v) → (0 < u) × (bs ≡ groups_of k v ++ drop u bs) × (u ≡ length (groups_of k v))
-written_again zero bs v u small e s = let z : ◌≡◌ {A = ℕ} 0 1 = cc (groups_endless bs) in absurd (omega arith)
-written_again (suc k) [] v u small e s = let z : ◌≡◌ {A = ℕ} 0 1 = cc (groups_cut k) in absurd (omega arith)
+written_again zero bs v u small e s = let z = groups_endless bs in absurd (grind arith)
+written_again (suc k) [] v u small e s = let z = groups_cut k in absurd (grind arith)
 written_again (suc k) (b ∷ bs) v u small e s =
     elim (cases_lt b 128) [
       | inl l ↦ one_again k b bs v u l (sym (groups_last k b bs l) ∙ e)
@@ -101,9 +101,9 @@ accepted len at v u n next e =
       | inl s ↦
           elim (cases_Bool (leb v largest)) [
             | inl l ↦ let w : taken v (at + u) ≡ taken n next = rw (s, l) at e in (cc, cc, s, l)
-            | inr l ↦ let w : ◌≡◌ {A = Outcome ℕ} (refused 3 at) (taken n next) = rw (s, l) at e in let z : ◌≡◌ {A = ℕ} 0 1 = cc in absurd (omega arith)
+            | inr l ↦ let w : ◌≡◌ {A = Outcome ℕ} (refused 3 at) (taken n next) = rw (s, l) at e in absurd (grind arith)
           ]
-      | inr s ↦ let w : ◌≡◌ {A = Outcome ℕ} (refused 3 at) (taken n next) = rw s at e in let z : ◌≡◌ {A = ℕ} 0 1 = cc in absurd (omega arith)
+      | inr s ↦ let w : ◌≡◌ {A = Outcome ℕ} (refused 3 at) (taken n next) = rw s at e in absurd (grind arith)
     ]
 
 long : (v u : ℕ) → 1 < u → shortest v u ≡ true → 128 ^ (u - 1) ≤ v
@@ -113,8 +113,8 @@ pub from_judged : (len at n next : ℕ) (g : Groups) → judged len at g ≡ tak
 from_judged len at n next (whole v u) e =
     let x : (v ≡ n) × (at + u ≡ next) × (shortest v u ≡ true) × (leb v largest ≡ true) = accepted len at v u n next e in
     (u, rw x.0, (λ h. rw (sym x.0) (long v u h x.2)), rw (sym x.0) (omega (arith, leb-true v largest x.3)), sym x.1)
-from_judged len at n next cut e = let z : ◌≡◌ {A = ℕ} 0 1 = cc in absurd (omega arith)
-from_judged len at n next endless e = let z : ◌≡◌ {A = ℕ} 0 1 = cc in absurd (omega arith)
+from_judged len at n next cut e = absurd (grind arith)
+from_judged len at n next endless e = absurd (grind arith)
 
 pub takes_only_what_is_written : (bytes : List ℕ) (at n next : ℕ) → ((i : ℕ) → get_or bytes i 0 < 256) → number_at bytes at ≡ taken n next → (n ≤ largest) × (drop at bytes ≡ written n ++ drop next bytes) × (next ≡ at + length (written n))
 unfolding written
