@@ -1,6 +1,6 @@
 -- The texts of a refusal and of a report, and the row of 128 bytes that a text stands in.
-use Rattle.std.specs.Prelude.{ℕ, ◌-◌, List, [], ◌∷◌, ◌++◌, length, replicate, codes, decimal}
-use Rattle.std.specs.List.{flat_map}
+use Rattle.std.specs.Prelude.{ℕ, ◌-◌, List, [], ◌∷◌, ◌++◌, length, replicate, codes, decimal, nat_eq}
+use Rattle.std.specs.List.{flat_map, before_first}
 use Rattle.report.specs.declared.Refusal.{Refusal}
 use Rattle.report.specs.declared.Report.{Report}
 use Rattle.report.specs.Answers.{verdict_word, document_word, cause_values}
@@ -25,3 +25,7 @@ report_text report = first_line report ++ flat_map refusal_text (cause_values re
 -- the text, and zeros behind it
 abbrev pub row_of : List ℕ → List ℕ
 row_of text = text ++ replicate (128 - length text) 0
+
+-- the text of a row: what stands before its first zero
+abbrev pub text_of : List ℕ → List ℕ
+text_of row = before_first (λ b. nat_eq b 0) row

@@ -1,15 +1,18 @@
 #![tactic(auto)]
 
-ghost use Rattle.std.specs.Prelude.{◌≡◌, ℕ, ◌+◌, ◌<◌, ◌≤◌, ◌++◌, length, take, ◌≢◌, slice_index};
+ghost use Rattle.std.specs.Prelude.{◌≡◌, ℕ, ◌+◌, ◌<◌, ◌≤◌, ◌++◌, length, take, ◌≢◌, slice_index, Some, OnOk};
+ghost use Rattle.std.specs.Io.KnownBytes.{Appends};
+ghost use Rattle.arrayvec.specs.ArrayString.{array_string_len};
 ghost use Rattle.report.specs.Answers.{verdict_word, document_word, cause_values};
-ghost use Rattle.report.specs.Line.{refusal_text, first_line, report_text, row_of};
+ghost use Rattle.report.specs.Line.{refusal_text, first_line, report_text, row_of, text_of};
 
-use line::Line;
+use line::{Line, put_field, row_of};
+use std::{fmt, io};
 
 mod line;
 
 // What a watch comes to: the drive kept to its model, or broke it, or neither can be told.
-#[derive(Clone, Copy)]
+#[derive(Clone, Copy, Debug, PartialEq, Eq)]
 pub enum Verdict {
     Pass,
     Fail,
@@ -17,7 +20,7 @@ pub enum Verdict {
 }
 
 // What a refusal speaks of.
-#[derive(Clone, Copy)]
+#[derive(Clone, Copy, Debug, PartialEq, Eq)]
 pub enum Document {
     Program,
     Sheet,
@@ -26,7 +29,8 @@ pub enum Document {
 }
 
 // The rule that something breaks, by number, and where.
-#[derive(Clone, Copy)]
+// The number stays a u8: a narrower type would ask more of callers, who may say 255.
+#[derive(Clone, Copy, Debug, PartialEq, Eq)]
 pub struct Refusal {
     pub document: Document,
     pub number: u8,
@@ -35,7 +39,7 @@ pub struct Refusal {
 
 // Why a watch ended: it was closed, a see or a wait broke it, the store had no place left, or
 // something was refused.
-#[derive(Clone, Copy)]
+#[derive(Clone, Copy, Debug, PartialEq, Eq)]
 pub enum Cause {
     Closed,
     BrokenSee,
@@ -45,7 +49,7 @@ pub enum Cause {
 }
 
 // How a watch ended: its verdict and cause, the items that it took, and the tick from its opening.
-#[derive(Clone, Copy)]
+#[derive(Clone, Copy, Debug, PartialEq, Eq)]
 pub struct Report {
     pub verdict: Verdict,
     pub cause: Cause,
@@ -53,75 +57,136 @@ pub struct Report {
     pub tick: u64,
 }
 
-fn verdict_word(verdict: Verdict) -> &'static [u8]
-    ensures word { result.now ≡ verdict_word verdict }
-    ensures short { length result.now ≤ 12 }
-{
-    match verdict {
-        Verdict::Pass => b"pass",
-        Verdict::Fail => b"fail",
-        Verdict::Inconclusive => b"inconclusive",
+impl Verdict {
+    fn word(self) -> &'static str
+        ensures word { result.now ≡ verdict_word self }
+        ensures short { length result.now ≤ 12 }
+    {
+        match self {
+            Verdict::Pass => "pass",
+            Verdict::Fail => "fail",
+            Verdict::Inconclusive => "inconclusive",
+        }
     }
 }
 
-fn document_word(document: Document) -> &'static [u8]
-    ensures word { result.now ≡ document_word document }
-    ensures short { length result.now ≤ 9 }
-{
-    match document {
-        Document::Program => b"program",
-        Document::Sheet => b"sheet",
-        Document::Recording => b"recording",
-        Document::Watch => b"watch",
+impl fmt::Display for Verdict {
+    ghost output = { λ verdict. Some (verdict_word verdict) };
+
+    fn fmt<W: fmt::Write>(&self, f: &mut fmt::Formatter<W>) -> fmt::Result {
+        f.write_str(self.word())
     }
 }
 
-fn cause_number(cause: Cause) -> u64
-    ensures number { result ≡ (cause_values cause).0 }
-    ensures digit { result < 10 }
-{
-    match cause {
-        Cause::Closed => 0,
-        Cause::BrokenSee => 1,
-        Cause::BrokenWait => 2,
-        Cause::Overrun => 3,
-        Cause::Refused(_) => 4,
+impl Document {
+    fn word(self) -> &'static str
+        ensures word { result.now ≡ document_word self }
+        ensures short { length result.now ≤ 9 }
+    {
+        match self {
+            Document::Program => "program",
+            Document::Sheet => "sheet",
+            Document::Recording => "recording",
+            Document::Watch => "watch",
+        }
+    }
+}
+
+impl fmt::Display for Document {
+    ghost output = { λ document. Some (document_word document) };
+
+    fn fmt<W: fmt::Write>(&self, f: &mut fmt::Formatter<W>) -> fmt::Result {
+        f.write_str(self.word())
+    }
+}
+
+impl Cause {
+    // By a rule of the project the number of an answer stands in one definition, which this match follows.
+    fn number(self) -> u64
+        ensures number { result ≡ (cause_values self).0 }
+        ensures digit { result < 10 }
+    {
+        match self {
+            Cause::Closed => 0,
+            Cause::BrokenSee => 1,
+            Cause::BrokenWait => 2,
+            Cause::Overrun => 3,
+            Cause::Refused(_) => 4,
+        }
     }
 }
 
 // At most 60 bytes: 8 and 9 for the words, 21 for each number behind its blank, and the line feed.
 fn put_refusal(line: &mut Line, refusal: Refusal)
-    requires room { line.old.len + 60 ≤ 128 }
-    ensures text { take line.new.len line.new.row ≡ take line.old.len line.old.row ++ refusal_text refusal }
+    requires room { array_string_len line.old + 60 ≤ 128 }
+    ensures text { line.new.bytes ≡ line.old.bytes ++ refusal_text refusal }
 {
-    line.put(b"refused ");
-    line.put(document_word(refusal.document));
-    line.put_field(u64::from(refusal.number));
-    line.put_field(refusal.place);
-    line.put(b"\n");
-}
-
-// The text of a refusal, and zeros behind it.
-pub fn refusal_line(refusal: Refusal) -> [u8; 128]
-    ensures row { result ≡ row_of (refusal_text refusal) }
-    ensures whole { length (refusal_text refusal) ≤ 128 }
-{
-    let mut line = Line::new();
-    put_refusal(&mut line, refusal);
-    line.into_row()
+    line.push_str("refused ");
+    line.push_str(refusal.document.word());
+    put_field(line, u64::from(refusal.number));
+    put_field(line, refusal.place);
+    line.push_str("\n");
 }
 
 // At most 57 bytes: 12 for the word, 2 for the cause, which is a single digit, 21 for each number, and the line feed.
 fn put_first_line(line: &mut Line, report: Report)
-    requires room { line.old.len + 57 ≤ 128 }
-    ensures text { take line.new.len line.new.row ≡ take line.old.len line.old.row ++ first_line report }
-    ensures short { line.new.len ≤ line.old.len + 57 }
+    requires room { array_string_len line.old + 57 ≤ 128 }
+    ensures text { line.new.bytes ≡ line.old.bytes ++ first_line report }
+    ensures short { array_string_len line.new ≤ array_string_len line.old + 57 }
 {
-    line.put(verdict_word(report.verdict));
-    line.put_field(cause_number(report.cause));
-    line.put_field(report.count);
-    line.put_field(report.tick);
-    line.put(b"\n");
+    line.push_str(report.verdict.word());
+    put_field(line, report.cause.number());
+    put_field(line, report.count);
+    put_field(line, report.tick);
+    line.push_str("\n");
+}
+
+impl Refusal {
+    // No `write!` into the line, which promises its text only where it answers Ok: tried, and the proof stays open.
+    fn text(self) -> Line
+        ensures text { result.bytes ≡ refusal_text self }
+    {
+        let mut line = Line::new();
+        put_refusal(&mut line, self);
+        line
+    }
+}
+
+impl fmt::Display for Refusal {
+    ghost output = { λ refusal. Some (refusal_text refusal) };
+
+    fn fmt<W: fmt::Write>(&self, f: &mut fmt::Formatter<W>) -> fmt::Result {
+        f.write_str(self.text().as_str())
+    }
+}
+
+impl Report {
+    fn text(self) -> Line
+        ensures text { result.bytes ≡ report_text self }
+    {
+        let mut line = Line::new();
+        put_first_line(&mut line, self);
+        if let Cause::Refused(refusal) = self.cause {
+            put_refusal(&mut line, refusal);
+        }
+        line
+    }
+}
+
+impl fmt::Display for Report {
+    ghost output = { λ report. Some (report_text report) };
+
+    fn fmt<W: fmt::Write>(&self, f: &mut fmt::Formatter<W>) -> fmt::Result {
+        f.write_str(self.text().as_str())
+    }
+}
+
+// The text of a refusal, and zeros behind it: fixed memory, and no String, by a rule of the project.
+pub fn refusal_line(refusal: Refusal) -> [u8; 128]
+    ensures row { result ≡ row_of (refusal_text refusal) }
+    ensures whole { length (refusal_text refusal) ≤ 128 }
+{
+    row_of(&refusal.text())
 }
 
 // The text of a report, with its refusal on a second line if there is one, and zeros behind it.
@@ -129,12 +194,7 @@ pub fn report_line(report: Report) -> [u8; 128]
     ensures row { result ≡ row_of (report_text report) }
     ensures whole { length (report_text report) ≤ 128 }
 {
-    let mut line = Line::new();
-    put_first_line(&mut line, report);
-    if let Cause::Refused(refusal) = report.cause {
-        put_refusal(&mut line, refusal);
-    }
-    line.into_row()
+    row_of(&report.text())
 }
 
 // How many bytes of a row are its text: those before the first zero.
@@ -143,17 +203,29 @@ pub fn text_length(row: &[u8]) -> usize
     ensures no_zero_before { (k : ℕ) → k < result → slice_index row.now k ≢ 0 }
     ensures then_zero { result < length row.now → slice_index row.now result ≡ 0 }
 {
-    for (i, byte) in row.iter().enumerate() {
-        if *byte == 0 {
-            return i;
-        }
-    }
-    row.len()
+    row.iter().position(|byte| *byte == 0).unwrap_or(row.len())
+}
+
+// The text of a row: its bytes before the first zero.
+pub fn text(row: &[u8]) -> &[u8]
+    ensures before_zero { result.now ≡ text_of row.now }
+    ensures no_zero { (k : ℕ) → k < length result.now → slice_index result.now k ≢ 0 }
+    ensures then_zero { length result.now < length row.now → slice_index row.now (length result.now) ≡ 0 }
+{
+    &row[..text_length(row)]
+}
+
+// Writes the text of a row, which ends with its own line feed.
+pub fn write_line<W: io::Write>(out: &mut W, row: &[u8]) -> io::Result<()>
+    ensures written { OnOk result (Appends (W.contents out.old) (W.contents out.new) (text_of row.now)) }
+{
+    out.write_all(text(row))
 }
 
 #[cfg(test)]
 mod tests {
     use super::*;
+    use std::fmt::InlineText;
 
     #[test]
     fn a_pass_closes(rt: HostRuntime) {
@@ -174,6 +246,22 @@ mod tests {
             place: 0,
         });
         assert_eq!(rt; &line[0..19], b"refused sheet 4 0\n\0".as_slice());
+    }
+
+    #[test]
+    fn the_text_of_a_row(rt: HostRuntime) {
+        let refusal = Refusal {
+            document: Document::Recording,
+            number: 12,
+            place: 345,
+        };
+        let row = refusal_line(refusal);
+        assert_eq!(rt; text(&row), b"refused recording 12 345\n".as_slice());
+        assert_eq!(rt;
+            InlineText::<64>::of(refusal).as_str(),
+            "refused recording 12 345\n"
+        );
+        assert_eq!(rt; InlineText::<64>::of(Verdict::Fail).as_str(), "fail");
     }
 
     #[test]

@@ -1,3 +1,0 @@
-mod Digits
-mod Rows
-mod Texts
