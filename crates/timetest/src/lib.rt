@@ -6,11 +6,10 @@ ghost use Rattle.timetest.specs.LimitLaws.{limit_laws};
 
 use time::TimeKind;
 
-// A bound in whole ticks.
-#[derive(Clone, Copy)]
-pub enum Limit {
-    Free,
-    To(i64),
+// A bound in whole ticks, by the last of them that it admits, if there is one.
+#[derive(Clone, Copy, Debug, PartialEq, Eq)]
+pub struct Limit {
+    last: Option<i64>,
 }
 
 impl TimeKind for Limit {
@@ -23,53 +22,39 @@ impl TimeKind for Limit {
     ghost laws = { limit_laws };
 
     fn at_most(c: i64) -> Limit {
-        Limit::To(c)
+        Limit { last: Some(c) }
     }
 
     fn less_than(c: i64) -> Limit {
-        Limit::To(c.wrapping_sub(1))
+        Limit {
+            last: Some(c.wrapping_sub(1)),
+        }
     }
 
     fn none() -> Limit {
-        Limit::Free
+        Limit { last: None }
     }
 
     fn sum(self, other: Limit) -> Limit {
-        match (self, other) {
-            (Limit::To(a), Limit::To(b)) => Limit::To(a.wrapping_add(b)),
-            (Limit::To(_), Limit::Free) => Limit::Free,
-            (Limit::Free, _) => Limit::Free,
+        Limit {
+            last: self.last.zip(other.last).map(|(a, b)| a.wrapping_add(b)),
         }
     }
 
     fn tighter(self, other: Limit) -> Limit {
-        match (self, other) {
-            (Limit::To(a), Limit::To(b)) => if a <= b { self } else { other },
-            (Limit::To(_), Limit::Free) => self,
-            (Limit::Free, _) => other,
-        }
+        if other.covers(self) { self } else { other }
     }
 
     fn covers(self, other: Limit) -> bool {
-        match (self, other) {
-            (Limit::Free, _) => true,
-            (Limit::To(a), Limit::To(b)) => b <= a,
-            (Limit::To(_), Limit::Free) => false,
-        }
+        self.last.is_none_or(|a| other.last.is_some_and(|b| b <= a))
     }
 
     fn admits_zero(self) -> bool {
-        match self {
-            Limit::Free => true,
-            Limit::To(c) => c >= 0,
-        }
+        self.last.is_none_or(|c| c >= 0)
     }
 
     fn last_tick(self) -> Option<i64> {
-        match self {
-            Limit::Free => None,
-            Limit::To(c) => Some(c),
-        }
+        self.last
     }
 }
 
@@ -80,10 +65,7 @@ mod tests {
     use time::{SplitTicks, WholeTicks};
 
     fn ends_at<K: TimeKind>(bound: K, tick: i64) -> bool {
-        match bound.last_tick() {
-            Some(t) => t == tick,
-            None => false,
-        }
+        bound.last_tick() == Some(tick)
     }
 
     fn same<K: TimeKind>(a: K, b: K) -> bool {

@@ -1,18 +1,25 @@
-use Rattle.std.proofs.Common.{arith, w64, SFits, rules}
+use Rattle.std.proofs.Common.{◌≡◌, Option, Some, None, ℤ, Bool, true, false, not, inl, sym, subst, arith}
+use Rattle.std.specs.Prelude.{int_lt}
 use Rattle.std.proofs.lemmas.Int.{ints}
+use Rattle.time.specs.Differences.{Within, Tells}
+use Rattle.timetest.specs.Limit.{limit_had, limit_admits}
 use Rattle.timetest.specs.LimitLaws.{limit_covers, limit_covered, limit_uncovered}
 use Rattle.timetest.proofs.LimitTimeKind.covers.Goals as goal
 
-pub returns-in-To-To : goal.returns-in-To-To
-returns-in-To-To c =
-    let f : SFits w64 c.in-To-To.a = search rules in
-    let k : SFits w64 c.in-To-To.b = search rules in
-    simp (c.in-To-To.is-0, c.in-To-To.is-1) (record {
-      tells_within = record {
-        yes = λ t. limit_covers c.in-To-To.a c.in-To-To.b (omega (arith, ints));
-        no = λ w. let l = limit_covered c.in-To-To.a c.in-To-To.b w in omega (arith, ints);
-      };
-    })
+abbrev no_less : Option ℤ → Option ℤ → Bool
+no_less None p = true
+no_less (Some a) None = false
+no_less (Some a) (Some b) = not (int_lt a b)
 
-pub returns-in-To-Free : goal.returns-in-To-Free
-returns-in-To-Free c = simp (c.in-To-Free.is-0, c.in-To-Free.is-1) (record { tells_within = record { yes = λ t. elim t [ ]; no = λ w. limit_uncovered c.in-To-Free.field-0-0 w } })
+told : (o p : Option ℤ) → Tells (no_less o p) (Within limit_had (limit_admits (record { last = p })) (limit_admits (record { last = o })))
+told None p = record { yes = λ t g h d x. inl tt; no = λ w. tt }
+told (Some a) None = record { yes = λ t. elim t [ ]; no = λ w. limit_uncovered a w }
+told (Some a) (Some b) = record {
+  yes = λ t. limit_covers a b (grind (arith, ints));
+  no = λ w. let l = limit_covered a b w in grind (arith, ints);
+}
+
+pub returns : goal.returns
+returns c =
+    let e : c.is_none_or.result ≡ no_less c.args.self.last c.args.other.last = grind (arith, ints) in
+    record { tells_within = subst (λ (r : Bool). Tells r (Within limit_had (limit_admits c.args.other) (limit_admits c.args.self))) (sym e) (told c.args.self.last c.args.other.last) }
