@@ -1,1 +1,2 @@
 mod Tighter
+mod Sums
