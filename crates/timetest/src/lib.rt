@@ -68,6 +68,7 @@ mod tests {
         bound.last_tick() == Some(tick)
     }
 
+    // By `covers`, since a kind of time need have no equality.
     fn same<K: TimeKind>(a: K, b: K) -> bool {
         a.covers(b) && b.covers(a)
     }
