@@ -1,2 +1,3 @@
 pub mod Tallies
+pub mod Refusals
 pub mod Examining

@@ -1,16 +1,17 @@
 #![tactic(auto)]
 
-ghost use Rattle.std.specs.Prelude.{◌≡◌, length};
+ghost use Rattle.std.specs.Prelude.{◌≡◌, Result, length};
 ghost use Rattle.examine.specs.Tallies.{capped, waits_in, sees_in, ticks_in};
+ghost use Rattle.examine.specs.Refusals.{Refuses};
 ghost use Rattle.examine.specs.Examining.{examined, examine_answer, RefusedLeaves};
-ghost use Rattle.network.specs.Answers.{sheet_rule, sheet_place};
-ghost use Rattle.report.specs.declared.Document.TheVariants.{Sheet, Recording as RecordingWord};
-ghost use Rattle.wire.specs.Answers.{byte_rule, byte_place};
-ghost use Rattle.source.specs.Answers.{recording_rule, recording_place};
+ghost use Rattle.examine.specs.declared.Fault.TheVariants.{Sheet, Recording};
+ghost use Rattle.network.specs.Answers.{sheet_case};
+ghost use Rattle.wire.specs.Answers.{byte_case};
+ghost use Rattle.source.specs.Answers.{recording_case};
 
 use network::{Network, SheetFault, read_sheet};
 use report::{Document, Refusal};
-use source::{Ending, Item, Recording, RecordingFault, Step, TraceSource};
+use source::{Item, Recording, RecordingFault, TraceSource};
 use wire::ByteFault;
 
 // A file may have this many bytes.
@@ -22,106 +23,109 @@ pub struct Tally<F> {
     pub waits: u64,
     pub sees: u64,
     pub ticks: u64,
-    pub ending: Ending<F>,
+    pub ending: Result<(), F>,
+}
+
+// Why the files of a run are refused.
+#[derive(Clone, Copy)]
+pub enum Fault {
+    // A file has more than `LONGEST` bytes.
+    TooLong,
+    Sheet(SheetFault),
+    Recording(RecordingFault),
+}
+
+impl From<SheetFault> for Fault {
+    ghost from_gives = { λ fault r. r ≡ Sheet fault };
+
+    fn from(fault: SheetFault) -> Fault {
+        Fault::Sheet(fault)
+    }
+}
+
+impl From<RecordingFault> for Fault {
+    ghost from_gives = { λ fault r. r ≡ Recording fault };
+
+    fn from(fault: RecordingFault) -> Fault {
+        Fault::Recording(fault)
+    }
+}
+
+impl From<Fault> for Refusal {
+    ghost from_gives = { Refuses };
+
+    fn from(fault: Fault) -> Refusal {
+        let (document, (number, place)) = match fault {
+            Fault::TooLong => (Document::Program, (1, LONGEST)),
+            Fault::Sheet(fault) => (Document::Sheet, sheet_case(fault)),
+            Fault::Recording(fault) => (Document::Recording, recording_case(fault)),
+        };
+        Refusal {
+            document,
+            number,
+            place: place as u64,
+        }
+    }
+}
+
+// The number of the rule that is broken, and the place that a refusal names.
+fn sheet_case(fault: SheetFault) -> (u8, usize)
+    ensures case { result ≡ sheet_case fault }
+{
+    match fault {
+        SheetFault::Byte(inner) => byte_case(inner),
+        SheetFault::Value(place) => (4, place),
+        SheetFault::SelfComparison(place) => (5, place),
+        SheetFault::AgainstSide(place) => (6, place),
+        SheetFault::LeftOver(place) => (7, place),
+    }
+}
+
+fn recording_case(fault: RecordingFault) -> (u8, usize)
+    ensures case { result ≡ recording_case fault }
+{
+    match fault {
+        RecordingFault::Byte(inner) => byte_case(inner),
+        RecordingFault::FirstByte(place) => (4, place),
+        RecordingFault::LeftOver(place) => (7, place),
+    }
+}
+
+fn byte_case(fault: ByteFault) -> (u8, usize)
+    ensures case { result ≡ byte_case fault }
+{
+    match fault {
+        ByteFault::Ends(place) => (2, place),
+        ByteFault::Form(place) => (3, place),
+    }
 }
 
 // Asks a source to its ending. Each figure stops at the largest number.
-pub fn tally_of<S: TraceSource + Drop>(source: S) -> Tally<S::Fault>
+pub fn tally_of<S: TraceSource + Drop>(mut source: S) -> Tally<S::Fault>
     ensures waits { result.waits ≡ capped (waits_in (S.TraceSource.items source)) }
     ensures sees { result.sees ≡ capped (sees_in (S.TraceSource.items source)) }
     ensures ticks { result.ticks ≡ capped (ticks_in (S.TraceSource.items source)) }
     ensures ending { result.ending ≡ S.TraceSource.ending source }
 {
-    let mut source = source;
     let mut waits = 0u64;
     let mut sees = 0u64;
     let mut ticks = 0u64;
-    loop {
+    let ending = loop {
         match source.next() {
-            Step::Next(Item::Wait(d)) => {
+            Ok(Some(Item::Wait(d))) => {
                 waits = waits.saturating_add(1);
                 ticks = ticks.saturating_add(u64::from(d));
             }
-            Step::Next(Item::See(_)) => sees = sees.saturating_add(1),
-            Step::Stopped(ending) => return Tally {
-                waits,
-                sees,
-                ticks,
-                ending,
-            },
+            Ok(Some(Item::See(_))) => sees = sees.saturating_add(1),
+            Ok(None) => break Ok(()),
+            Err(fault) => break Err(fault),
         }
-    }
-}
-
-// The rule and the place of a number's fault.
-fn byte_refusal(document: Document, fault: ByteFault) -> Refusal
-    ensures document { result.document ≡ document }
-    ensures number { result.number ≡ byte_rule fault }
-    ensures place { result.place ≡ byte_place fault }
-{
-    match fault {
-        ByteFault::Ends(place) => Refusal {
-            document,
-            number: 2,
-            place: place as u64,
-        },
-        ByteFault::Form(place) => Refusal {
-            document,
-            number: 3,
-            place: place as u64,
-        },
-    }
-}
-
-pub fn sheet_refusal(fault: SheetFault) -> Refusal
-    ensures document { result.document ≡ Sheet }
-    ensures number { result.number ≡ sheet_rule fault }
-    ensures place { result.place ≡ sheet_place fault }
-{
-    let document = Document::Sheet;
-    match fault {
-        SheetFault::Byte(inner) => byte_refusal(document, inner),
-        SheetFault::Value(place) => Refusal {
-            document,
-            number: 4,
-            place: place as u64,
-        },
-        SheetFault::SelfComparison(place) => Refusal {
-            document,
-            number: 5,
-            place: place as u64,
-        },
-        SheetFault::AgainstSide(place) => Refusal {
-            document,
-            number: 6,
-            place: place as u64,
-        },
-        SheetFault::LeftOver(place) => Refusal {
-            document,
-            number: 7,
-            place: place as u64,
-        },
-    }
-}
-
-pub fn recording_refusal(fault: RecordingFault) -> Refusal
-    ensures document { result.document ≡ RecordingWord }
-    ensures number { result.number ≡ recording_rule fault }
-    ensures place { result.place ≡ recording_place fault }
-{
-    let document = Document::Recording;
-    match fault {
-        RecordingFault::Byte(inner) => byte_refusal(document, inner),
-        RecordingFault::FirstByte(place) => Refusal {
-            document,
-            number: 4,
-            place: place as u64,
-        },
-        RecordingFault::LeftOver(place) => Refusal {
-            document,
-            number: 7,
-            place: place as u64,
-        },
+    };
+    Tally {
+        waits,
+        sees,
+        ticks,
+        ending,
     }
 }
 
@@ -131,21 +135,15 @@ pub fn examine(
     sheet: &[u8],
     recording: &[u8],
     place: &mut Network,
-) -> Result<Tally<RecordingFault>, Refusal>
+) -> Result<Tally<RecordingFault>, Fault>
     ensures first_refusal_or_tally { examine_answer place.new result ≡ examined sheet.now recording.now }
     ensures refused_leaves_the_place { RefusedLeaves place.old place.new result }
 {
     if sheet.len() > LONGEST || recording.len() > LONGEST {
-        return Err(Refusal {
-            document: Document::Program,
-            number: 1,
-            place: 16_384,
-        });
+        return Err(Fault::TooLong);
     }
-    match read_sheet(sheet, place) {
-        Ok(_) => Ok(tally_of(Recording::new(recording))),
-        Err(fault) => Err(sheet_refusal(fault)),
-    }
+    read_sheet(sheet, place)?;
+    Ok(tally_of(Recording::new(recording)))
 }
 
 #[cfg(test)]
@@ -158,11 +156,11 @@ mod tests {
         0, 1, 2, 0, 1, 1, 1, 0, 3, 1, 0, 1, 0, 189, 132, 61, 0,
     ];
 
-    fn is_refusal(r: Result<Tally<RecordingFault>, Refusal>, number: u8, place: u64) -> bool {
-        match r {
-            Ok(_) => false,
-            Err(refusal) => refusal.number == number && refusal.place == place,
-        }
+    fn refusal(sheet: &[u8]) -> Option<(u8, u64)> {
+        let mut place = Network::smallest();
+        let fault = examine(sheet, &[2], &mut place).err()?;
+        let refusal = Refusal::from(fault);
+        Some((refusal.number, refusal.place))
     }
 
     #[test]
@@ -228,16 +226,9 @@ mod tests {
 
     #[test]
     fn refusals_name_their_place(rt: HostRuntime) {
-        let mut place = Network::smallest();
-        assert!(rt; is_refusal(examine(&[], &[2], &mut place), 2, 0));
-        assert!(rt; is_refusal(examine(&[2], &[2], &mut place), 4, 0));
-        assert!(rt; is_refusal(examine(&[1, 128, 0], &[2], &mut place), 3, 1));
-        assert!(rt;
-            is_refusal(
-                examine(&[1, 0, 0, 1, 0, 1, 0, 0, 0], &[2], &mut place),
-                7,
-                8,
-            )
-        );
+        assert!(rt; refusal(&[]) == Some((2, 0)));
+        assert!(rt; refusal(&[2]) == Some((4, 0)));
+        assert!(rt; refusal(&[1, 128, 0]) == Some((3, 1)));
+        assert!(rt; refusal(&[1, 0, 0, 1, 0, 1, 0, 0, 0]) == Some((7, 8)));
     }
 }

@@ -1,2 +1,0 @@
-pub mod Stops
-pub mod Turned
