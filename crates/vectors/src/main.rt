@@ -2,15 +2,20 @@
 // hexadecimal, `-` for none. Prints for each what `inspect` comes to, on one line.
 #![tactic(auto)]
 
-use examine::{Tally, examine, recording_refusal};
+ghost use Rattle.std.specs.Prelude.{◌<◌};
+
+use examine::{Fault, Tally, examine};
 use network::Network;
-use report::{refusal_line, text_length};
-use source::{Ending, RecordingFault};
+use report::{refusal_line, write_line};
+use source::RecordingFault;
 use std::alloc::Global;
 use std::io;
-use std::io::{BufRead, BufReader, Write};
+use std::io::{BufRead, BufReader};
 
-fn digit(b: u8) -> u8 {
+// Not `to_digit`, which takes capitals too, nor the crate hex, which refuses a lone digit.
+fn digit(b: u8) -> u8
+    ensures digit { result < 16 }
+{
     match b {
         b'0'..=b'9' => b - b'0',
         b'a'..=b'f' => b - b'a' + 10,
@@ -21,18 +26,10 @@ fn digit(b: u8) -> u8 {
 // The bytes that pairs of digits stand for; a lone digit, as `-`, stands for none.
 fn bytes_of(heap: Global, text: &[u8]) -> io::Result<Vec<u8>> {
     let mut bytes = Vec::new(heap);
-    for pair in text.chunks_exact(2) {
-        if let [high, low] = pair {
-            bytes.push((digit(*high) % 16) * 16 + digit(*low) % 16)?;
-        }
+    for [high, low] in text.as_chunks::<2>().0 {
+        bytes.push(digit(*high) * 16 + digit(*low))?;
     }
     Ok(bytes)
-}
-
-fn line(rt: &HostRuntime, row: &[u8]) -> io::Result<()> {
-    let n = text_length(row);
-    let mut out = rt.stdout();
-    out.write_all(&row[0..n])
 }
 
 fn accepted(rt: &HostRuntime, tally: Tally<RecordingFault>) -> io::Result<()> {
@@ -44,8 +41,11 @@ fn accepted(rt: &HostRuntime, tally: Tally<RecordingFault>) -> io::Result<()> {
     } = tally;
     print!(rt; "accepted waits {waits} sees {sees} ticks {ticks} ")?;
     match ending {
-        Ending::End => println!(rt; "ends"),
-        Ending::Fault(fault) => line(rt, &refusal_line(recording_refusal(fault))),
+        Ok(()) => println!(rt; "ends"),
+        Err(fault) => write_line(
+            &mut rt.stdout(),
+            &refusal_line(Fault::Recording(fault).into()),
+        ),
     }
 }
 
@@ -58,7 +58,7 @@ fn case(rt: &HostRuntime, text: &str) -> io::Result<()> {
     let mut place = Network::smallest();
     match examine(sheet.as_slice(), recording.as_slice(), &mut place) {
         Ok(tally) => accepted(rt, tally),
-        Err(refusal) => line(rt, &refusal_line(refusal)),
+        Err(fault) => write_line(&mut rt.stdout(), &refusal_line(fault.into())),
     }
 }
 
