@@ -27,7 +27,7 @@ pub struct Tally<F> {
 }
 
 // Why the files of a run are refused.
-#[derive(Clone, Copy)]
+#[derive(Clone, Copy, Debug, PartialEq, Eq)]
 pub enum Fault {
     // A file has more than `LONGEST` bytes.
     TooLong,

@@ -4,7 +4,7 @@ ghost use Rattle.network.specs.declared.faults.SheetFault.TheVariants.{Byte};
 use wire::ByteFault;
 
 // Why a sheet is refused, with the place that the refusal names.
-#[derive(Clone, Copy)]
+#[derive(Clone, Copy, Debug, PartialEq, Eq)]
 pub enum SheetFault {
     // the fault of a number, whole
     Byte(ByteFault),
