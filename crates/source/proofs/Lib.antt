@@ -1,4 +1,3 @@
-pub mod Records
 pub mod Found
 pub mod Traces
 pub mod Closing
