@@ -63,12 +63,14 @@ impl From<Fault> for Refusal {
         Refusal {
             document,
             number,
+            // A usize has no From to u64, and no value that does not fit.
             place: place as u64,
         }
     }
 }
 
-// The number of the rule that is broken, and the place that a refusal names.
+// The number of the rule that is broken, and the place that a refusal names. Names for the numbers
+// would say no more than the faults beside them.
 fn sheet_case(fault: SheetFault) -> (u8, usize)
     ensures case { result ≡ sheet_case fault }
 {

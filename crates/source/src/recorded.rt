@@ -27,7 +27,7 @@ impl From<ByteFault> for RecordingFault {
     }
 }
 
-// The bytes of a recording, read where they are.
+// The bytes of a recording, read where they are, and a position in them: the project's rule.
 #[derive(Drop)]
 pub struct Recording<'a> {
     bytes: &'a [u8],
