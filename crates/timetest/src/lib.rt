@@ -87,10 +87,15 @@ mod tests {
         assert!(rt; !K::less_than(0).admits_zero());
     }
 
+    // What holds in kinds without halves.
+    fn whole<K: TimeKind>(rt: &impl Abort) {
+        ticks::<K>(rt);
+        assert!(rt; same(K::less_than(4), K::at_most(3)));
+    }
+
     #[test]
     fn whole_ticks(rt: HostRuntime) {
-        ticks::<WholeTicks>(&rt);
-        assert!(rt; same(WholeTicks::less_than(4), WholeTicks::at_most(3)));
+        whole::<WholeTicks>(&rt);
     }
 
     #[test]
@@ -101,7 +106,6 @@ mod tests {
 
     #[test]
     fn limits(rt: HostRuntime) {
-        ticks::<Limit>(&rt);
-        assert!(rt; same(Limit::less_than(4), Limit::at_most(3)));
+        whole::<Limit>(&rt);
     }
 }
