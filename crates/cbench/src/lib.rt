@@ -19,17 +19,16 @@ pub extern "C" fn read_sheet_rounds(bytes: &[u8], rounds: u32) -> u64 {
 
 // Bounds that a closing tightens a good deal; zero from a clock to itself.
 fn spread_out<T: TimeKind>(part: &mut [T], side: usize) {
-    for (p, bound) in part.iter_mut().enumerate() {
-        let (i, j) = match side {
-            0 => (0, 0),
-            _ => (p / side, p % side),
-        };
-        let far = ((i.wrapping_mul(17)).wrapping_add(j.wrapping_mul(29)) % 40) as i64;
-        *bound = T::at_most(if i == j { 0 } else { 3 + far });
+    for (i, row) in part.chunks_exact_mut(side.max(1)).enumerate() {
+        for (j, bound) in row.iter_mut().enumerate() {
+            let far = ((i.wrapping_mul(17)).wrapping_add(j.wrapping_mul(29)) % 40) as i64;
+            *bound = T::at_most(if i == j { 0 } else { 3 + far });
+        }
     }
 }
 
-// Fills and closes a matrix of at most 10 clocks at the front of a row so many times, and counts how often it has points.
+// Fills and closes a matrix of at most 10 clocks at the front of a row so many times, and counts how often it has points:
+// never where the row does not hold it, a number being all that C is answered.
 fn close_rounds<T: TimeKind>(row: &mut [T], side: usize, rounds: u32) -> u64 {
     if side > 10 {
         return 0;

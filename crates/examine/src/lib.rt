@@ -57,8 +57,8 @@ impl From<Fault> for Refusal {
     fn from(fault: Fault) -> Refusal {
         let (document, (number, place)) = match fault {
             Fault::TooLong => (Document::Program, (1, LONGEST)),
-            Fault::Sheet(fault) => (Document::Sheet, sheet_case(fault)),
-            Fault::Recording(fault) => (Document::Recording, recording_case(fault)),
+            Fault::Sheet(inner) => (Document::Sheet, sheet_case(inner)),
+            Fault::Recording(inner) => (Document::Recording, recording_case(inner)),
         };
         Refusal {
             document,
@@ -158,9 +158,8 @@ mod tests {
         0, 1, 2, 0, 1, 1, 1, 0, 3, 1, 0, 1, 0, 189, 132, 61, 0,
     ];
 
-    fn refusal(sheet: &[u8]) -> Option<(u8, u64)> {
-        let mut place = Network::smallest();
-        let fault = examine(sheet, &[2], &mut place).err()?;
+    fn refusal(sheet: &[u8], place: &mut Network) -> Option<(u8, u64)> {
+        let fault = examine(sheet, &[2], place).err()?;
         let refusal = Refusal::from(fault);
         Some((refusal.number, refusal.place))
     }
@@ -228,9 +227,10 @@ mod tests {
 
     #[test]
     fn refusals_name_their_place(rt: HostRuntime) {
-        assert!(rt; refusal(&[]) == Some((2, 0)));
-        assert!(rt; refusal(&[2]) == Some((4, 0)));
-        assert!(rt; refusal(&[1, 128, 0]) == Some((3, 1)));
-        assert!(rt; refusal(&[1, 0, 0, 1, 0, 1, 0, 0, 0]) == Some((7, 8)));
+        let mut place = Network::smallest();
+        assert!(rt; refusal(&[], &mut place) == Some((2, 0)));
+        assert!(rt; refusal(&[2], &mut place) == Some((4, 0)));
+        assert!(rt; refusal(&[1, 128, 0], &mut place) == Some((3, 1)));
+        assert!(rt; refusal(&[1, 0, 0, 1, 0, 1, 0, 0, 0], &mut place) == Some((7, 8)));
     }
 }

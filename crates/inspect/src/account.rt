@@ -75,7 +75,7 @@ pub(crate) fn network(rt: &HostRuntime, n: &Network) -> io::Result<()> {
     edges(rt, n.edges())
 }
 
-// The figures of the recording, and how it ends.
+// The figures of the recording, and how it ends; a refusal by its row, as every line of a run is written.
 pub(crate) fn recording(rt: &HostRuntime, tally: Tally<RecordingFault>) -> io::Result<()> {
     println!(rt;
         "recording: waits {}, sees {}, ticks {}",

@@ -54,7 +54,8 @@ impl<'a> Recording<'a> {
         self.at
     }
 
-    // The item of the record at the position, none at the last one, and the place behind it.
+    // The item of the record at the position, none at the last one, and the place behind it, which there is
+    // for both.
     fn record(&self) -> Result<(Option<Item>, usize), RecordingFault>
         ensures reads_the_record { record_answer result ≡ record_at self.now.bytes.now self.now.at }
     {

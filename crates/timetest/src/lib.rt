@@ -9,7 +9,7 @@ use time::TimeKind;
 // A bound in whole ticks, by the last of them that it admits, if there is one.
 #[derive(Clone, Copy, Debug, PartialEq, Eq)]
 pub struct Limit {
-    last: Option<i64>,
+    pub last: Option<i64>,
 }
 
 impl TimeKind for Limit {

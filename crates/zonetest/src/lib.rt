@@ -68,16 +68,13 @@ mod tests {
         zone.delay();
         zone.elapsed_exactly(seven);
         assert!(rt; zone.close());
-        let mut whole = [WholeTicks::none(); 9];
-        let mut before = ZoneMut::over(&mut whole, 3);
-        before.start();
-        before.delay();
-        before.elapsed_exactly(seven);
-        assert!(rt; before.close());
+        let whole = part;
+        let before = Zone::over(&whole, 3);
+        let mut zone = ZoneMut::over(&mut part, 3);
         zone.reset(1);
         assert!(rt; zone.seen().elapsed_at(seven));
-        assert!(rt; !zone.seen().inside(&before.seen()));
-        assert!(rt; before.seen().inside(&before.seen()));
+        assert!(rt; !zone.seen().inside(&before));
+        assert!(rt; before.inside(&before));
         assert!(rt; zone.seen().last_elapsed() == Some(7));
     }
 
