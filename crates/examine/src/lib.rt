@@ -183,6 +183,7 @@ mod tests {
     fn put(sheet: &mut Vec<u8>, fields: &[u32]) -> Result<(), Fail> {
         for field in fields {
             let mut v = *field;
+            // At most five bytes; a `while` would want a measure.
             for _ in 0..5 {
                 if v < 128 {
                     break;

@@ -6,6 +6,8 @@ use source::RecordingFault;
 use std::fmt::Display;
 use std::io;
 
+// A part prints itself, but not its number, which it does not know.
+
 // Parts in a row: the first behind its word, each other one behind `and`.
 fn series<T: Display>(rt: &HostRuntime, opening: &str, parts: &[T]) -> io::Result<()> {
     for (i, part) in parts.iter().enumerate() {
@@ -81,6 +83,7 @@ pub(crate) fn recording(rt: &HostRuntime, tally: Tally<RecordingFault>) -> io::R
         "recording: waits {}, sees {}, ticks {}",
         tally.waits, tally.sees, tally.ticks
     )?;
+    // As in vectors: a function for both would hold the words of two accounts.
     match tally.ending {
         Ok(()) => println!(rt; "ends"),
         Err(fault) => write_line(

@@ -59,7 +59,7 @@ impl<'a> Recording<'a> {
     fn record(&self) -> Result<(Option<Item>, usize), RecordingFault>
         ensures reads_the_record { record_answer result ≡ record_at self.now.bytes.now self.now.at }
     {
-        // A `rest` begins where the whole without it ends.
+        // Each record's own pattern, by a rule of the project. A `rest` begins where the whole without it ends.
         let whole = self.bytes.len();
         match &self.bytes[self.at..] {
             [0, rest @ ..] => {

@@ -1,4 +1,5 @@
-// What shows that the meaning of bounds is neither empty nor everything, and that the kinds differ.
+// What shows that the meaning of bounds is neither empty nor everything, and that the kinds differ: so the calls
+// for one kind and for the other are not one generic call, since they promise different things.
 ghost use Rattle.std.specs.Prelude.{◌≡◌, true, pos, ◌-ℤ◌};
 ghost use Rattle.time.specs.Grains.{Grain};
 ghost use Rattle.time.specs.Differences.{AtMost, LessThan, Same, Last, MadeRange};

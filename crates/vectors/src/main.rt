@@ -40,6 +40,7 @@ fn accepted(rt: &HostRuntime, tally: Tally<RecordingFault>) -> io::Result<()> {
         ending,
     } = tally;
     print!(rt; "accepted waits {waits} sees {sees} ticks {ticks} ")?;
+    // As in inspect: a function for both would hold the words of two accounts.
     match ending {
         Ok(()) => println!(rt; "ends"),
         Err(fault) => write_line(

@@ -1,6 +1,8 @@
 // Zones run on numbers, in both kinds of time: one clock (index 1) and the elapsed clock (index 2).
 #![tactic(auto)]
 
+ghost use Rattle.std.specs.Prelude.{◌≡◌, ◌<◌};
+
 #[cfg(test)]
 mod tests {
     use model::{Condition, Limit};
@@ -25,12 +27,20 @@ mod tests {
         Ticks::new(count).expect(rt, "a count that a watch may reach")
     }
 
-    // From zero let time pass while the clock is less than 4, and then take the points at `w`.
-    fn reaches<T: TimeKind>(rt: &impl Abort, part: &mut [T; 9], w: u64) -> bool {
-        let mut zone = ZoneMut::over(part, 3);
+    // Time passes from zero while the clock is less than 4.
+    fn below_four<T: TimeKind>(zone: &mut ZoneMut<'_, T>)
+        requires { 1 < zone.old.side }
+        ensures { zone.new.side ≡ zone.old.side }
+    {
         zone.start();
         zone.delay();
         zone.keep_limits(&BELOW_FOUR);
+    }
+
+    // Whether it is then at `w` ticks.
+    fn reaches<T: TimeKind>(rt: &impl Abort, part: &mut [T; 9], w: u64) -> bool {
+        let mut zone = ZoneMut::over(part, 3);
+        below_four(&mut zone);
         zone.elapsed_at_most(ticks(rt, 10));
         zone.close() && zone.seen().elapsed_at(ticks(rt, w))
     }
@@ -38,9 +48,7 @@ mod tests {
     // Whether time passes 3 before it reaches 4.
     fn passes_three<T: TimeKind>(part: &mut [T; 9]) -> bool {
         let mut zone = ZoneMut::over(part, 3);
-        zone.start();
-        zone.delay();
-        zone.keep_limits(&BELOW_FOUR);
+        below_four(&mut zone);
         zone.meet_conditions(&ABOVE_THREE);
         zone.close()
     }
