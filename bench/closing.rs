@@ -101,10 +101,11 @@ pub fn close<T: Bound>(part: &mut [T], side: usize) -> bool {
 }
 
 fn spread_out<T: Bound>(part: &mut [T], side: usize) {
-    for (p, bound) in part.iter_mut().enumerate() {
-        let (i, j) = (p / side, p % side);
-        let far = ((i * 17 + j * 29) % 40) as i64;
-        *bound = T::at_most(if i == j { 0 } else { 3 + far });
+    for (i, row) in part.chunks_exact_mut(side).enumerate() {
+        for (j, bound) in row.iter_mut().enumerate() {
+            let far = ((i * 17 + j * 29) % 40) as i64;
+            *bound = T::at_most(if i == j { 0 } else { 3 + far });
+        }
     }
 }
 

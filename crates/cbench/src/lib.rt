@@ -10,6 +10,7 @@ use zones::close;
 pub extern "C" fn read_sheet_rounds(bytes: &[u8], rounds: u32) -> u64 {
     let mut place = Network::smallest();
     let mut edges = 0u64;
+    // It repeats, and counts nothing.
     for _ in 0..rounds {
         let _ = read_sheet(bytes, &mut place);
         edges = edges.wrapping_add(place.edges().len() as u64);
@@ -37,6 +38,7 @@ fn close_rounds<T: TimeKind>(row: &mut [T], side: usize, rounds: u32) -> u64 {
         return 0;
     };
     let mut closed = 0u64;
+    // It repeats, and counts nothing.
     for _ in 0..rounds {
         spread_out(part, side);
         closed = closed.wrapping_add(u64::from(close(part, side)));
@@ -44,6 +46,7 @@ fn close_rounds<T: TimeKind>(row: &mut [T], side: usize, rounds: u32) -> u64 {
     closed
 }
 
+// The rows are fixed, since C lends no memory here.
 #[unsafe(no_mangle)]
 pub extern "C" fn close_whole_rounds(side: usize, rounds: u32) -> u64 {
     close_rounds(&mut [WholeTicks::none(); 100], side, rounds)

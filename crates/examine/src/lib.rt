@@ -83,6 +83,7 @@ fn sheet_case(fault: SheetFault) -> (u8, usize)
     }
 }
 
+// As `sheet_case`: names would say no more.
 fn recording_case(fault: RecordingFault) -> (u8, usize)
     ensures case { result ≡ recording_case fault }
 {
@@ -93,6 +94,7 @@ fn recording_case(fault: RecordingFault) -> (u8, usize)
     }
 }
 
+// As `sheet_case`: names would say no more.
 fn byte_case(fault: ByteFault) -> (u8, usize)
     ensures case { result ≡ byte_case fault }
 {
@@ -112,6 +114,7 @@ pub fn tally_of<S: TraceSource + Drop>(mut source: S) -> Tally<S::Fault>
     let mut waits = 0u64;
     let mut sees = 0u64;
     let mut ticks = 0u64;
+    // A source is no iterator: it may answer a fault.
     let ending = loop {
         match source.next() {
             Ok(Some(Item::Wait(d))) => {

@@ -83,7 +83,7 @@ pub(crate) fn recording(rt: &HostRuntime, tally: Tally<RecordingFault>) -> io::R
         "recording: waits {}, sees {}, ticks {}",
         tally.waits, tally.sees, tally.ticks
     )?;
-    // As in vectors: a function for both would hold the words of two accounts.
+    // As in vectors: a call for both would take the writer and the ending, and be no shorter.
     match tally.ending {
         Ok(()) => println!(rt; "ends"),
         Err(fault) => write_line(

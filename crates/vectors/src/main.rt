@@ -40,7 +40,7 @@ fn accepted(rt: &HostRuntime, tally: Tally<RecordingFault>) -> io::Result<()> {
         ending,
     } = tally;
     print!(rt; "accepted waits {waits} sees {sees} ticks {ticks} ")?;
-    // As in inspect: a function for both would hold the words of two accounts.
+    // As in inspect: a call for both would take the writer and the ending, and be no shorter.
     match ending {
         Ok(()) => println!(rt; "ends"),
         Err(fault) => write_line(
