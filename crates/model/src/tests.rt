@@ -1,25 +1,24 @@
 use crate::{ChannelKind, Condition, Label, Limit, Location, Row, Side, UnknownNumber};
+use std::alloc::Global;
 use std::fmt::Display;
-use std::process::Abort;
 use std::test::Fail;
 
-// What the part prints, beside the text that is wanted.
-fn prints<T: Display>(rt: &(impl Alloc + Abort), part: &T, text: &str) -> Result<(), Fail> {
-    let printed = part.to_string(rt.alloc())?;
-    assert_eq!(rt; printed.as_str(), text);
-    Ok(())
+// Whether the part prints that text.
+fn prints<T: Display>(heap: Global, part: &T, text: &str) -> Result<bool, Fail> {
+    Ok(part.to_string(heap)?.as_str() == text)
 }
 
 #[test]
 fn kinds_sides_and_labels(rt: HostRuntime) -> Result<(), Fail> {
-    prints(&rt, &ChannelKind::Input, "input")?;
-    prints(&rt, &ChannelKind::Output, "output")?;
-    prints(&rt, &ChannelKind::Hidden, "hidden")?;
-    prints(&rt, &Side::Environment, "environment")?;
-    prints(&rt, &Side::System, "system")?;
-    prints(&rt, &Label::Alone, "alone")?;
-    prints(&rt, &Label::Send(3), "sends 3")?;
-    prints(&rt, &Label::Receive(3), "receives 3")
+    assert!(rt; prints(rt.alloc(), &ChannelKind::Input, "input")?);
+    assert!(rt; prints(rt.alloc(), &ChannelKind::Output, "output")?);
+    assert!(rt; prints(rt.alloc(), &ChannelKind::Hidden, "hidden")?);
+    assert!(rt; prints(rt.alloc(), &Side::Environment, "environment")?);
+    assert!(rt; prints(rt.alloc(), &Side::System, "system")?);
+    assert!(rt; prints(rt.alloc(), &Label::Alone, "alone")?);
+    assert!(rt; prints(rt.alloc(), &Label::Send(3), "sends 3")?);
+    assert!(rt; prints(rt.alloc(), &Label::Receive(3), "receives 3")?);
+    Ok(())
 }
 
 #[test]
@@ -33,18 +32,13 @@ fn limits(rt: HostRuntime) -> Result<(), Fail> {
         strict: true,
         ..at_most
     };
-    prints(&rt, &at_most, "clock 1 <= 5")?;
-    prints(&rt, &less, "clock 1 < 5")
+    assert!(rt; prints(rt.alloc(), &at_most, "clock 1 <= 5")?);
+    assert!(rt; prints(rt.alloc(), &less, "clock 1 < 5")?);
+    Ok(())
 }
 
 // A condition that is not strict, and the same one strict.
-fn both(
-    rt: &(impl Alloc + Abort),
-    left: u8,
-    right: u8,
-    ticks: i32,
-    texts: [&str; 2],
-) -> Result<(), Fail> {
+fn both(heap: Global, left: u8, right: u8, ticks: i32, texts: [&str; 2]) -> Result<bool, Fail> {
     let loose = Condition {
         left,
         right,
@@ -55,29 +49,33 @@ fn both(
         strict: true,
         ..loose
     };
-    prints(rt, &loose, texts[0])?;
-    prints(rt, &strict, texts[1])
+    Ok(prints(heap, &loose, texts[0])? && prints(heap, &strict, texts[1])?)
 }
 
 #[test]
 fn conditions(rt: HostRuntime) -> Result<(), Fail> {
-    both(
-        &rt,
-        1,
-        2,
-        5,
-        ["clock 1 - clock 2 <= 5", "clock 1 - clock 2 < 5"],
-    )?;
-    both(
-        &rt,
-        2,
-        1,
-        -5,
-        ["clock 2 - clock 1 <= -5", "clock 2 - clock 1 < -5"],
-    )?;
-    both(&rt, 3, 0, 7, ["clock 3 <= 7", "clock 3 < 7"])?;
-    both(&rt, 0, 3, -7, ["clock 3 >= 7", "clock 3 > 7"])?;
-    both(&rt, 0, 3, 0, ["clock 3 >= 0", "clock 3 > 0"])
+    assert!(rt;
+        both(
+            rt.alloc(),
+            1,
+            2,
+            5,
+            ["clock 1 - clock 2 <= 5", "clock 1 - clock 2 < 5"]
+        )?
+    );
+    assert!(rt;
+        both(
+            rt.alloc(),
+            2,
+            1,
+            -5,
+            ["clock 2 - clock 1 <= -5", "clock 2 - clock 1 < -5"]
+        )?
+    );
+    assert!(rt; both(rt.alloc(), 3, 0, 7, ["clock 3 <= 7", "clock 3 < 7"])?);
+    assert!(rt; both(rt.alloc(), 0, 3, -7, ["clock 3 >= 7", "clock 3 > 7"])?);
+    assert!(rt; both(rt.alloc(), 0, 3, 0, ["clock 3 >= 0", "clock 3 > 0"])?);
+    Ok(())
 }
 
 #[test]
@@ -90,7 +88,14 @@ fn numbers(rt: HostRuntime) -> Result<(), Fail> {
     assert_eq!(rt; Label::try_from(511), Ok(Label::Send(255)));
     assert_eq!(rt; Label::try_from(512), Ok(Label::Receive(255)));
     assert_eq!(rt; Label::try_from(513), Err(UnknownNumber(513)));
-    prints(&rt, &UnknownNumber(513), "nothing here has the number 513")
+    assert!(rt;
+        prints(
+            rt.alloc(),
+            &UnknownNumber(513),
+            "nothing here has the number 513"
+        )?
+    );
+    Ok(())
 }
 
 #[test]

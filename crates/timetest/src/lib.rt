@@ -87,15 +87,15 @@ mod tests {
         assert!(rt; !K::less_than(0).admits_zero());
     }
 
-    // What holds in kinds without halves.
-    fn whole<K: TimeKind>(rt: &impl Abort) {
-        ticks::<K>(rt);
-        assert!(rt; same(K::less_than(4), K::at_most(3)));
+    // Whether less than 4 is at most 3, as in kinds without halves.
+    fn has_no_halves<K: TimeKind>() -> bool {
+        same(K::less_than(4), K::at_most(3))
     }
 
     #[test]
     fn whole_ticks(rt: HostRuntime) {
-        whole::<WholeTicks>(&rt);
+        ticks::<WholeTicks>(&rt);
+        assert!(rt; has_no_halves::<WholeTicks>());
     }
 
     #[test]
@@ -106,6 +106,7 @@ mod tests {
 
     #[test]
     fn limits(rt: HostRuntime) {
-        whole::<Limit>(&rt);
+        ticks::<Limit>(&rt);
+        assert!(rt; has_no_halves::<Limit>());
     }
 }

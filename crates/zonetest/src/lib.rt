@@ -6,7 +6,6 @@ ghost use Rattle.std.specs.Prelude.{◌≡◌, ◌<◌};
 #[cfg(test)]
 mod tests {
     use model::{Condition, Limit};
-    use std::process::Abort;
     use time::{SplitTicks, TimeKind, WholeTicks};
     use zones::*;
 
@@ -23,10 +22,6 @@ mod tests {
         ticks: -3,
     }];
 
-    fn ticks(rt: &impl Abort, count: u64) -> Ticks {
-        Ticks::new(count).expect(rt, "a count that a watch may reach")
-    }
-
     // Time passes from zero while the clock is less than 4.
     fn below_four<T: TimeKind>(zone: &mut ZoneMut<'_, T>)
         requires { 1 < zone.old.side }
@@ -38,11 +33,12 @@ mod tests {
     }
 
     // Whether it is then at `w` ticks.
-    fn reaches<T: TimeKind>(rt: &impl Abort, part: &mut [T; 9], w: u64) -> bool {
+    fn reaches<T: TimeKind>(part: &mut [T; 9], w: u64) -> Option<bool> {
         let mut zone = ZoneMut::over(part, 3);
         below_four(&mut zone);
-        zone.elapsed_at_most(ticks(rt, 10));
-        zone.close() && zone.seen().elapsed_at(ticks(rt, w))
+        zone.elapsed_at_most(Ticks::new(10)?);
+        let w = Ticks::new(w)?;
+        Some(zone.close() && zone.seen().elapsed_at(w))
     }
 
     // Whether time passes 3 before it reaches 4.
@@ -55,10 +51,10 @@ mod tests {
 
     #[test]
     fn limits_stop_time(rt: HostRuntime) {
-        assert!(rt; reaches(&rt, &mut [WholeTicks::none(); 9], 3));
-        assert!(rt; !reaches(&rt, &mut [WholeTicks::none(); 9], 4));
-        assert!(rt; reaches(&rt, &mut [SplitTicks::none(); 9], 3));
-        assert!(rt; !reaches(&rt, &mut [SplitTicks::none(); 9], 4));
+        assert!(rt; reaches(&mut [WholeTicks::none(); 9], 3) == Some(true));
+        assert!(rt; reaches(&mut [WholeTicks::none(); 9], 4) == Some(false));
+        assert!(rt; reaches(&mut [SplitTicks::none(); 9], 3) == Some(true));
+        assert!(rt; reaches(&mut [SplitTicks::none(); 9], 4) == Some(false));
     }
 
     #[test]
@@ -69,7 +65,9 @@ mod tests {
 
     #[test]
     fn a_reset_keeps_the_elapsed_clock(rt: HostRuntime) {
-        let seven = ticks(&rt, 7);
+        let Some(seven) = Ticks::new(7) else {
+            return assert!(rt; false);
+        };
         let mut part = [WholeTicks::none(); 9];
         let mut zone = ZoneMut::over(&mut part, 3);
         zone.start();
@@ -88,15 +86,18 @@ mod tests {
 
     #[test]
     fn the_elapsed_clock_of_eight_clocks_is_reset(rt: HostRuntime) {
+        let (Some(zero), Some(seven)) = (Ticks::new(0), Ticks::new(7)) else {
+            return assert!(rt; false);
+        };
         let mut part = [WholeTicks::none(); 100];
         let mut zone = ZoneMut::over(&mut part, 10);
         zone.start();
         zone.delay();
-        zone.elapsed_exactly(ticks(&rt, 7));
+        zone.elapsed_exactly(seven);
         assert!(rt; zone.close());
         zone.reset(256);
         assert!(rt; zone.seen().last_elapsed() == Some(0));
-        assert!(rt; zone.seen().elapsed_at(ticks(&rt, 0)));
-        assert!(rt; !zone.seen().elapsed_at(ticks(&rt, 7)));
+        assert!(rt; zone.seen().elapsed_at(zero));
+        assert!(rt; !zone.seen().elapsed_at(seven));
     }
 }
