@@ -46,7 +46,7 @@ fn close_rounds<T: TimeKind>(row: &mut [T], side: usize, rounds: u32) -> u64 {
     closed
 }
 
-// The rows are fixed, since C lends no memory here.
+// The rows are fixed, since C lends no memory here; a side and rounds are what C passes.
 #[unsafe(no_mangle)]
 pub extern "C" fn close_whole_rounds(side: usize, rounds: u32) -> u64 {
     close_rounds(&mut [WholeTicks::none(); 100], side, rounds)

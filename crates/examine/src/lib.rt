@@ -56,6 +56,7 @@ impl From<Fault> for Refusal {
 
     fn from(fault: Fault) -> Refusal {
         let (document, (number, place)) = match fault {
+            // A number, as in the cases below.
             Fault::TooLong => (Document::Program, (1, LONGEST)),
             Fault::Sheet(inner) => (Document::Sheet, sheet_case(inner)),
             Fault::Recording(inner) => (Document::Recording, recording_case(inner)),
