@@ -88,7 +88,7 @@ pub(crate) fn recording(rt: &HostRuntime, tally: Tally<RecordingFault>) -> io::R
         Ok(()) => println!(rt; "ends"),
         Err(fault) => write_line(
             &mut rt.stdout(),
-            &refusal_line(Fault::Recording(fault).into()),
+            &refusal_line(Fault::from(fault).into()),
         ),
     }
 }

@@ -45,7 +45,7 @@ fn accepted(rt: &HostRuntime, tally: Tally<RecordingFault>) -> io::Result<()> {
         Ok(()) => println!(rt; "ends"),
         Err(fault) => write_line(
             &mut rt.stdout(),
-            &refusal_line(Fault::Recording(fault).into()),
+            &refusal_line(Fault::from(fault).into()),
         ),
     }
 }
