@@ -86,9 +86,6 @@ pub(crate) fn recording(rt: &HostRuntime, tally: Tally<RecordingFault>) -> io::R
     // As in vectors: a call for both would take the writer and the ending, and be no shorter.
     match tally.ending {
         Ok(()) => println!(rt; "ends"),
-        Err(fault) => write_line(
-            &mut rt.stdout(),
-            &refusal_line(Fault::from(fault).into()),
-        ),
+        Err(fault) => write_line(&mut rt.stdout(), &refusal_line(Fault::from(fault).into())),
     }
 }

@@ -43,10 +43,7 @@ fn accepted(rt: &HostRuntime, tally: Tally<RecordingFault>) -> io::Result<()> {
     // As in inspect: a call for both would take the writer and the ending, and be no shorter.
     match ending {
         Ok(()) => println!(rt; "ends"),
-        Err(fault) => write_line(
-            &mut rt.stdout(),
-            &refusal_line(Fault::from(fault).into()),
-        ),
+        Err(fault) => write_line(&mut rt.stdout(), &refusal_line(Fault::from(fault).into())),
     }
 }
 
