@@ -1,0 +1,4 @@
+pub mod Replies
+pub mod Rows
+pub mod Waiting
+pub mod Calls
