@@ -3,7 +3,7 @@
 ghost use Rattle.std.specs.Prelude.{◌≡◌, ℕ, ◌+◌, ◌<◌, ◌≤◌, ◌++◌, length, take, ◌≢◌, slice_index, Some, OnOk};
 ghost use Rattle.std.specs.Io.KnownBytes.{Appends};
 ghost use Rattle.arrayvec.specs.ArrayString.{array_string_len};
-ghost use Rattle.report.specs.Answers.{verdict_word, document_word, cause_values};
+ghost use Rattle.report.specs.Answers.{verdict_word, document_word, cause_number};
 ghost use Rattle.report.specs.Line.{refusal_text, first_line, report_text, row_of, text_of};
 
 use line::{Line, put_field, row_of};
@@ -38,14 +38,14 @@ pub struct Refusal {
 }
 
 // Why a watch ended: it was closed, a see or a wait broke it, the store had no place left, or
-// something was refused.
+// something was refused. The refusal stands beside the report, since its type hangs on the trace source.
 #[derive(Clone, Copy, Debug, PartialEq, Eq)]
 pub enum Cause {
     Closed,
     BrokenSee,
     BrokenWait,
     Overrun,
-    Refused(Refusal),
+    Refused,
 }
 
 // How a watch ended: its verdict and cause, the items that it took, and the tick from its opening.
@@ -103,7 +103,7 @@ impl fmt::Display for Document {
 impl Cause {
     // By a rule of the project the number of an answer stands in one definition, which this match follows.
     fn number(self) -> u64
-        ensures number { result ≡ (cause_values self).0 }
+        ensures number { result ≡ cause_number self }
         ensures digit { result < 10 }
     {
         match self {
@@ -111,7 +111,7 @@ impl Cause {
             Cause::BrokenSee => 1,
             Cause::BrokenWait => 2,
             Cause::Overrun => 3,
-            Cause::Refused(_) => 4,
+            Cause::Refused => 4,
         }
     }
 }
@@ -162,19 +162,17 @@ impl fmt::Display for Refusal {
 
 impl Report {
     fn text(self) -> Line
-        ensures text { result.bytes ≡ report_text self }
+        ensures text { result.bytes ≡ first_line self }
+        ensures short { length (first_line self) ≤ 57 }
     {
         let mut line = Line::new();
         put_first_line(&mut line, self);
-        if let Cause::Refused(refusal) = self.cause {
-            put_refusal(&mut line, refusal);
-        }
         line
     }
 }
 
 impl fmt::Display for Report {
-    ghost output = { λ report. Some (report_text report) };
+    ghost output = { λ report. Some (first_line report) };
 
     fn fmt<W: fmt::Write>(&self, f: &mut fmt::Formatter<W>) -> fmt::Result {
         f.write_str(self.text().as_str())
@@ -189,12 +187,16 @@ pub fn refusal_line(refusal: Refusal) -> [u8; 128]
     row_of(&refusal.text())
 }
 
-// The text of a report, with its refusal on a second line if there is one, and zeros behind it.
-pub fn report_line(report: Report) -> [u8; 128]
-    ensures row { result ≡ row_of (report_text report) }
-    ensures whole { length (report_text report) ≤ 128 }
+// The text of a report, with the refusal beside it on a second line if there is one, and zeros behind it.
+pub fn report_line(report: Report, refusal: Option<Refusal>) -> [u8; 128]
+    ensures row { result ≡ row_of (report_text report refusal) }
+    ensures whole { length (report_text report refusal) ≤ 128 }
 {
-    row_of(&report.text())
+    let mut line = report.text();
+    if let Some(refusal) = refusal {
+        put_refusal(&mut line, refusal);
+    }
+    row_of(&line)
 }
 
 // How many bytes of a row are its text: those before the first zero.
@@ -229,13 +231,15 @@ mod tests {
 
     #[test]
     fn a_pass_closes(rt: HostRuntime) {
-        let line = report_line(Report {
+        let report = Report {
             verdict: Verdict::Pass,
             cause: Cause::Closed,
             count: 3,
             tick: 4,
-        });
+        };
+        let line = report_line(report, None);
         assert_eq!(rt; &line[0..12], b"pass 0 3 4\n\0".as_slice());
+        assert_eq!(rt; InlineText::<64>::of(report).as_str(), "pass 0 3 4\n");
     }
 
     #[test]
@@ -271,12 +275,13 @@ mod tests {
             number: u8::MAX,
             place: u64::MAX,
         };
-        let line = report_line(Report {
+        let report = Report {
             verdict: Verdict::Inconclusive,
-            cause: Cause::Refused(refusal),
+            cause: Cause::Refused,
             count: u64::MAX,
             tick: u64::MAX,
-        });
+        };
+        let line = report_line(report, Some(refusal));
         assert_eq!(rt;
             &line[0..57],
             b"inconclusive 4 18446744073709551615 18446744073709551615\n".as_slice()
@@ -284,6 +289,10 @@ mod tests {
         assert_eq!(rt;
             &line[57..101],
             b"refused recording 255 18446744073709551615\n\0".as_slice()
+        );
+        assert_eq!(rt;
+            InlineText::<64>::of(report).as_str(),
+            "inconclusive 4 18446744073709551615 18446744073709551615\n"
         );
     }
 }
