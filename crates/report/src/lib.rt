@@ -38,7 +38,8 @@ pub struct Refusal {
 }
 
 // Why a watch ended: it was closed, a see or a wait broke it, the store had no place left, or
-// something was refused. The refusal stands beside the report, since its type hangs on the trace source.
+// something was refused. What was refused stands beside the report: a watch's refusal has a type that
+// hangs on its trace source.
 #[derive(Clone, Copy, Debug, PartialEq, Eq)]
 pub enum Cause {
     Closed,
