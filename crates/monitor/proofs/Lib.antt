@@ -1,0 +1,2 @@
+pub mod Staying
+pub mod Waits
