@@ -1,3 +1,4 @@
 pub mod Staying
 pub mod Waits
+pub mod Opening
 pub mod Seeing
