@@ -51,7 +51,7 @@ module _ {B : Type 0} (had : ℕ → Type 0) (admits : B → ℕ → ℤ → Typ
     first_of : (p : List ℕ) (g : ℕ) (v : ℕ → ℤ) → Covered (kind B had admits) N E p g v → In (kind B had admits) N (E.zone 0) g v
     first_of p g v c = let b = c.below in let e : c.entry ≡ 0 = omega arith in subst (λ i. In (kind B had admits) N (E.zone i) g v) e c.«in»
 
-    pub begun_zeros : Zeros had admits reach N d bs ls
+    begun_zeros : Zeros had admits reach N d bs ls
     begun_zeros = record {
       places = begins_home;
       points = λ g v hg.
@@ -62,7 +62,7 @@ module _ {B : Type 0} (had : ℕ → Type 0) (admits : B → ℕ → ℤ → Typ
     }
 
 module _ {B : Type 0} (had : ℕ → Type 0) (admits : B → ℕ → ℤ → Type 0) (reach : B → ℕ) (a b : Store B) (d : B) (begun : Begun had admits reach a b d) where
-  pub begun_belongs : (entries : ℕ) → HasRows (network_in a) entries a.bounds.now a.locations.now → LeftAlone entries 0 a b → Belongs had admits reach (network_in a) d (opened entries) b.bounds.now b.locations.now
+  begun_belongs : (entries : ℕ) → HasRows (network_in a) entries a.bounds.now a.locations.now → LeftAlone entries 0 a b → Belongs had admits reach (network_in a) d (opened entries) b.bounds.now b.locations.now
   begun_belongs entries h l = record {
     rows = rows_kept (network_in a) entries 0 a.bounds.now b.bounds.now a.locations.now b.locations.now h l;
     estimated = omega arith;
