@@ -9,7 +9,6 @@ ghost use Rattle.monitor.specs.Rows.{HasRows};
 ghost use Rattle.monitor.specs.Replies.{most, overrunning, see_verdict};
 ghost use Rattle.monitor.specs.Calls.{Visible, Opens, Waits, WaitIn, Sees, SeeIn, Closes};
 
-
 use crate::WatchFault;
 use crate::growing::{Waited, wait};
 use estimate::Store;
