@@ -2,3 +2,5 @@ pub mod Staying
 pub mod Waits
 pub mod Opening
 pub mod Seeing
+pub mod OneReply
+pub mod Determinate

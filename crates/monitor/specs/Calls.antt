@@ -83,3 +83,22 @@ module _ {B : Type 0} (had : ℕ → Type 0) (admits : B → ℕ → ℤ → Typ
 
 abbrev pub Closes : Watch → Report → Type 0
 Closes w r = r ≡ closing w
+
+-- ---- the replies are determined by the estimate's points: of two stores whose estimates are alike
+
+module _ {B : Type 0} (had : ℕ → Type 0) (admits : B → ℕ → ℤ → Type 0) (reach : B → ℕ) (N : Model) (w : Watch) where
+  -- both are the watch's, and their estimates have the same locations and points, entry by entry
+  pub record AlikeRows (d d' : B) (bs : List B) (ls : List ℕ) (bs' : List B) (ls' : List ℕ) : Type 0 where
+    pub first : Belongs had admits reach N d w bs ls
+    pub second : Belongs had admits reach N d' w bs' ls'
+    pub alike : Alike (kind B had admits) N (estimate_of had admits reach N d w bs ls) (estimate_of had admits reach N d' w bs' ls')
+
+  -- a wait has one reply
+  abbrev pub WaitDetermined : Slip → ℕ → Type 0
+  WaitDetermined s ticks = (d d' : B) (bs bs' bs₁ bs₁' : List B) (ls ls' ls₁ ls₁' : List ℕ) (r r' : Reply) → AlikeRows d d' bs ls bs' ls' → Waits had admits reach N d w s bs ls ticks r bs₁ ls₁ → Waits had admits reach N d' w s bs' ls' ticks r' bs₁' ls₁' → r ≡ r'
+
+  -- a see has one reply, and where it goes on the new estimates are alike
+  abbrev pub SeeDetermined : Slip → ℕ → Type 0
+  SeeDetermined s k =
+      (d d' : B) (bs bs' bs₁ bs₁' : List B) (ls ls' ls₁ ls₁' : List ℕ) (r r' : Reply) → AlikeRows d d' bs ls bs' ls' → Sees had admits reach N d w s bs ls k r bs₁ ls₁ → Sees had admits reach N d' w s bs' ls' k r' bs₁' ls₁' →
+      (r ≡ r') × ((v : Watch) → r ≡ Going v s → Alike (kind B had admits) N (entries_of had admits N d bs₁ ls₁ 0 v.estimate) (entries_of had admits N d' bs₁' ls₁' 0 v.estimate))

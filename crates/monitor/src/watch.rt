@@ -7,7 +7,7 @@ ghost use Rattle.estimate.specs.Stores.{network_in, HasRoom, SameStore, LeftAlon
 ghost use Rattle.monitor.specs.declared.watch.Reply.TheVariants.{Ended};
 ghost use Rattle.monitor.specs.Rows.{HasRows};
 ghost use Rattle.monitor.specs.Replies.{most, overrunning, see_verdict};
-ghost use Rattle.monitor.specs.Calls.{Visible, Opens, Waits, WaitIn, Sees, SeeIn, Closes};
+ghost use Rattle.monitor.specs.Calls.{Visible, Opens, Waits, WaitIn, Sees, SeeIn, Closes, WaitDetermined, SeeDetermined};
 
 use crate::WatchFault;
 use crate::growing::{Waited, wait};
@@ -253,6 +253,7 @@ impl Watch {
         locations: &mut [u8],
         ticks: u32,
     ) -> Reply
+        ensures one_reply { WaitDetermined T.had T.admits T.reach (model_of network.now) self slip ticks }
         ensures waits { (d : T) → Waits T.had T.admits T.reach (model_of network.now) d self slip bounds.old locations.old ticks result bounds.new locations.new }
     {
         let items = self.items;
@@ -279,6 +280,7 @@ impl Watch {
         locations: &mut [u8],
         channel: u32,
     ) -> Reply
+        ensures one_reply { SeeDetermined T.had T.admits T.reach (model_of network.now) self slip channel }
         ensures sees { (d : T) → Sees T.had T.admits T.reach (model_of network.now) d self slip bounds.old locations.old channel result bounds.new locations.new }
     {
         let items = self.items;
