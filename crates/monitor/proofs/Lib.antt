@@ -4,3 +4,5 @@ pub mod Opening
 pub mod Seeing
 pub mod OneReply
 pub mod Determinate
+pub mod Words
+pub mod Steps
