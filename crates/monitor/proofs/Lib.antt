@@ -5,4 +5,5 @@ pub mod Seeing
 pub mod OneReply
 pub mod Determinate
 pub mod Words
+pub mod Runs
 pub mod Steps
