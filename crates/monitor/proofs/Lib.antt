@@ -7,3 +7,4 @@ pub mod Determinate
 pub mod Words
 pub mod Runs
 pub mod Steps
+pub mod Whole
