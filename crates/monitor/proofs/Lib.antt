@@ -8,3 +8,4 @@ pub mod Words
 pub mod Runs
 pub mod Steps
 pub mod Whole
+pub mod Decided

@@ -21,14 +21,20 @@ module _ (K : Kind) (N : Model) where
       let z = onward_run N o.grain S o.place o.readings (o.grain * U) o.onward in
       record { grain = o.grain; is_grain = o.is_grain; acts = z.acts; place = o.place; readings = o.readings; run = z.leads; word = z.word }
 
-  -- before its last see it was one with the sees before
+  -- right after its last see it was one too
+  pub run_last : (S : List (ℕ × ℕ)) (T : ℕ) → RunHas K N S T → RunHas K N S (last_tick S)
+  run_last S T r =
+      let o = run_onward N r.grain S r.place r.readings (r.grain * T) (has_run N K S T r) in
+      record { grain = r.grain; is_grain = r.is_grain; acts = o.after.acts; place = o.place; readings = o.readings; run = o.after.run; word = o.after.word }
+
+  -- and before that see one with the sees before
   run_before : (S : List (ℕ × ℕ)) (x : ℕ × ℕ) (T : ℕ) → RunHas K N (S ++ (x ∷ [])) T → RunHas K N S x.0
   run_before S x T r =
       let o = run_onward N r.grain (S ++ (x ∷ [])) r.place r.readings (r.grain * T) (has_run N K (S ++ (x ∷ [])) T r) in
       let c = came_right N r.grain S x o.place o.readings o.after in
       record { grain = r.grain; is_grain = r.is_grain; acts = c.way.acts; place = c.place; readings = c.readings; run = c.way.leads; word = c.way.word }
 
-  -- and before any of them
+  -- so with any sees before
   pub run_part : (S R : List (ℕ × ℕ)) (T : ℕ) → RunHas K N (S ++ R) T → RunHas K N S (next_tick R T)
   run_part S [] T r = subst (λ X. RunHas K N X T) (append-nil S) r
   run_part S (x ∷ R) T r = run_before S x (next_tick R T) (run_part (S ++ (x ∷ [])) R T (subst (λ X. RunHas K N X T) (sym (append_assoc S (x ∷ []) R)) r))
