@@ -9,3 +9,4 @@ pub mod Runs
 pub mod Steps
 pub mod Whole
 pub mod Decided
+pub mod Places
