@@ -1,5 +1,5 @@
 -- What the runs leave a trace to report hangs on its timed word alone.
-use Rattle.std.proofs.Common.{◌≡◌, ℕ, ◌+◌, ◌<◌, ◌≤◌, Bool, true, false, cond, ◌⊎◌, ◌↔◌, List, [], ◌∷◌, ◌++◌, ℤ, sym, refl, ap, ap₂, ◌∙◌, subst, subst₂, inl, inr, append_assoc, append-nil, le_trans, arith}
+use Rattle.std.proofs.Common.{◌≡◌, ℕ, ◌+◌, ◌<◌, ◌≤◌, Bool, true, false, cond, List, [], ◌∷◌, ◌++◌, ℤ, sym, refl, ap, ap₂, ◌∙◌, subst, subst₂, inl, inr, append_assoc, append-nil, le_trans, arith}
 use Rattle.source.specs.declared.Item.{Item}
 use Rattle.source.specs.declared.Item.TheVariants.{Wait, See}
 use Rattle.time.specs.Laws.{Laws}
@@ -11,15 +11,15 @@ use Rattle.report.specs.declared.Report.{Report}
 use Rattle.runs.specs.Kinds.{Kind, kind}
 use Rattle.runs.specs.Moves.{channel_at}
 use Rattle.runs.specs.Runs.{last_tick, RunHas, LooseRunHas}
-use Rattle.runs.specs.Traces.{ticks, sees_from, sees, last_see, HasTrace, LooselyTo, BreakTick}
+use Rattle.runs.specs.Traces.{ticks, sees_from, sees}
 use Rattle.runs.proofs.Scales.{le_or_lt}
 use Rattle.runs.proofs.TraceWords.{sees_then, ticks_then, last_tick_then}
 use Rattle.runs.proofs.Fair.{Fair}
 use Rattle.runs.proofs.Sounds.{sound_fair}
 use Rattle.monitor.specs.Replies.{see_verdict}
 use Rattle.monitor.specs.Waiting.{Says}
-use Rattle.monitor.specs.Shifts.{Stage, standing, closed, broken_off, Reports, IsClosed, Broke, Given, to_a_break, to_the_end, SameReport, WordsDecide}
-use Rattle.monitor.proofs.Words.{next_tick, next_after, ticks_more, sees_more, last_see_within}
+use Rattle.monitor.specs.Shifts.{Stage, closed, broken_off, Reports, Given, to_a_break, to_the_end, SameReport, WordsDecide}
+use Rattle.monitor.proofs.Words.{next_tick, next_after, ticks_more, sees_more}
 use Rattle.monitor.proofs.Runs.{run_earlier, run_last, run_part}
 use Rattle.monitor.proofs.Steps.{BrokeBy, by_wait, by_see}
 use Rattle.monitor.proofs.Whole.{Good, good_open, good_closed, good_broken, good_stopped, shift_good, no_break}

@@ -1,10 +1,10 @@
 -- What has the sees and ticks of a run has those of its earlier parts.
-use Rattle.std.proofs.Common.{◌≡◌, ℕ, ◌+◌, ◌*◌, ◌≤◌, ◌<◌, false, ◌⊎◌, List, [], ◌∷◌, ◌++◌, ℤ, sym, refl, ap, ◌∙◌, subst, subst₂, inl, inr, append_assoc, append-nil, mul-le-mul_left, arith}
+use Rattle.std.proofs.Common.{◌≡◌, ℕ, ◌+◌, ◌*◌, ◌≤◌, false, List, [], ◌∷◌, ◌++◌, sym, subst, subst₂, inl, inr, append_assoc, append-nil, mul-le-mul_left, arith}
 use Rattle.source.specs.declared.Item.{Item}
 use Rattle.model.specs.Model.{Model}
 use Rattle.runs.specs.Kinds.{Kind}
 use Rattle.runs.specs.Runs.{last_tick, RunHas}
-use Rattle.runs.specs.Traces.{ticks, sees_from, sees, last_see, HasTrace, BreakTick}
+use Rattle.runs.specs.Traces.{ticks, sees_from, sees, HasTrace, BreakTick}
 use Rattle.runs.proofs.Scales.{le_or_lt}
 use Rattle.runs.proofs.Fair.{Fair}
 use Rattle.runs.proofs.Running.{has_run}

@@ -1,28 +1,26 @@
 -- Whole shifts: where a shift stands whose growth fits is as the runs say.
-use Rattle.std.proofs.Common.{◌≡◌, ℕ, ◌+◌, ◌≤◌, Bool, true, false, cond, ◌⊎◌, ◌↔◌, List, [], ◌∷◌, ◌++◌, ℤ, sym, refl, ap, ◌∙◌, subst, subst₂, inl, inr, append_assoc, append-nil, arith}
+use Rattle.std.proofs.Common.{◌≡◌, ℕ, ◌+◌, Bool, true, false, cond, ◌⊎◌, ◌↔◌, List, [], ◌∷◌, ◌++◌, ℤ, sym, refl, ap, ◌∙◌, subst, subst₂, inl, inr, append_assoc, append-nil}
 use Rattle.source.specs.declared.Item.{Item}
-use Rattle.source.specs.declared.Item.TheVariants.{Wait, See}
+use Rattle.source.specs.declared.Item.TheVariants.{Wait}
 use Rattle.time.specs.Laws.{Laws}
 use Rattle.model.specs.declared.ChannelKind.{ChannelKind}
 use Rattle.model.specs.declared.ChannelKind.TheVariants.{Input, Output, Hidden}
 use Rattle.model.specs.Model.{Model}
 use Rattle.network.specs.Networks.{model_of}
 use Rattle.report.specs.declared.Verdict.TheVariants.{Pass, Fail, Inconclusive}
-use Rattle.report.specs.declared.Cause.{Cause}
 use Rattle.report.specs.declared.Cause.TheVariants.{Closed, BrokenSee, BrokenWait, Refused as Stopped}
 use Rattle.report.specs.declared.Report.{Report}
 use Rattle.runs.specs.Kinds.{Kind, kind}
 use Rattle.runs.specs.Moves.{channel_at}
 use Rattle.runs.specs.Runs.{RunHas}
-use Rattle.runs.specs.Traces.{ticks, sees, HasTrace, LooselyTo, BreakTick}
+use Rattle.runs.specs.Traces.{ticks, HasTrace, LooselyTo, BreakTick}
 use Rattle.runs.proofs.Fair.{Fair}
 use Rattle.runs.proofs.Sounds.{sound_fair}
 use Rattle.monitor.specs.declared.watch.Watch.{Watch}
 use Rattle.monitor.specs.declared.watch.Slip.{Slip}
 use Rattle.monitor.specs.Replies.{see_verdict}
-use Rattle.monitor.specs.Waiting.{Says}
 use Rattle.monitor.specs.Following.{Answer, stopping, Gives, at_end, at_fault, goes_on, ends, refuses, Follows, follow_without_rows, follows}
-use Rattle.monitor.specs.Shifts.{Stage, standing, closed, broken_off, taken, leaves, followed, follow_leaves, Shift, shift_opens, shift_goes_on, shift_ends, shift_refuses, shift_closes, shift_follows, FitsGives, FitsFollow, Fits, Reports, IsClosed, Broke, Blames, FailedBy, ByRuns, VerdictsByRuns}
+use Rattle.monitor.specs.Shifts.{Stage, standing, closed, broken_off, taken, leaves, followed, follow_leaves, Shift, shift_opens, shift_goes_on, shift_ends, shift_refuses, shift_closes, shift_follows, FitsGives, FitsFollow, Fits, Reports, Broke, Blames, ByRuns, VerdictsByRuns}
 use Rattle.monitor.proofs.Words.{ticks_waited, sees_waited, before_last, last_same}
 use Rattle.monitor.proofs.Runs.{trace_part, not_past, one_break}
 use Rattle.monitor.proofs.Steps.{BrokeBy, by_wait, by_see, Right, opened_right, going_on, ended_by, refused_right}
@@ -43,7 +41,7 @@ module _ {B : Type 0} {had : ℕ → Type 0} {admits : B → ℕ → ℤ → Typ
   gives_good ending y bs' ls' w s bs ls is (at_end e r c a u) t h f =
       subst (λ x. Good had admits reach N d x (closed r)) (sym (append-nil t)) (good_closed (ap (λ (x : Report). x.verdict) c) (ap (λ (x : Report). x.cause) c) (ap (λ (x : Report). x.tick) c ∙ h.tick) h.has)
   gives_good ending y bs' ls' w s bs ls is (at_fault e a u) t h f = subst (λ x. Good had admits reach N d x (broken_off (stopping w))) (sym (append-nil t)) (good_stopped refl refl h.has)
-  gives_good ending y bs' ls' w s bs ls is (goes_on {w₁ = w₁} {s₁ = s₁} {bs₁ = bs₁} {ls₁ = ls₁} {is = js} i x g) t h f =
+  gives_good ending y bs' ls' w s bs ls is (goes_on {w' = w₁} {s' = s₁} {bs' = bs₁} {ls' = ls₁} {is = js} i x g) t h f =
       subst (λ u. Good had admits reach N d u (leaves had admits reach N d g)) (append_assoc t (i ∷ []) (taken had admits reach N d g))
       (gives_good ending y bs' ls' w₁ s₁ bs₁ ls₁ js g (t ++ (i ∷ [])) (going_on L N F d t w s bs ls h i w₁ s₁ bs₁ ls₁ x) f.1)
   gives_good ending y bs' ls' w s bs ls is (ends i r x a) t h f = good_broken t i refl (ended_by L N F d t w s bs ls h i r bs' ls' x f)

@@ -1,8 +1,8 @@
 -- Traces put together: their ticks, their sees and their parts.
-use Rattle.std.proofs.Common.{◌≡◌, ℕ, ◌+◌, ◌<◌, ◌≤◌, List, [], ◌∷◌, ◌++◌, length, sym, refl, ap, ap₂, ◌∙◌, append_assoc, arith}
+use Rattle.std.proofs.Common.{◌≡◌, ℕ, ◌+◌, ◌≤◌, List, [], ◌∷◌, ◌++◌, length, refl, ap, ap₂, ◌∙◌, arith}
 use Rattle.source.specs.declared.Item.{Item}
 use Rattle.source.specs.declared.Item.TheVariants.{Wait, See}
-use Rattle.runs.specs.Runs.{last_from, last_tick}
+use Rattle.runs.specs.Runs.{last_from}
 use Rattle.runs.specs.Traces.{ticks, sees_from, sees, last_see}
 
 -- ---- ticks and sees

@@ -37,12 +37,12 @@ module _ {B : Type 0} (had : ℕ → Type 0) (admits : B → ℕ → ℤ → Typ
   Takes w s bs ls (See k) = Sees had admits reach N d w s bs ls k
 
   -- a watch given the items to come, each on what the one before left, to the end behind them (true) or the fault there (false), to a break or an overrun, or to an item that is refused
-  pub data Gives (ending : Bool) (y : Answer) (bs' : List B) (ls' : List ℕ) : Watch → Slip → List B → List ℕ → List Item → Type 0 where
-    at_end : {w : Watch} {s : Slip} {bs : List B} {ls : List ℕ} → ending ≡ true → (r : Report) → Closes w r → y ≡ ended r → Unchanged had admits reach N d bs ls bs' ls' → Gives ending y bs' ls' w s bs ls []
-    at_fault : {w : Watch} {s : Slip} {bs : List B} {ls : List ℕ} → ending ≡ false → y ≡ stopped_by_source (stopping w) → Unchanged had admits reach N d bs ls bs' ls' → Gives ending y bs' ls' w s bs ls []
-    goes_on : {w w₁ : Watch} {s s₁ : Slip} {bs bs₁ : List B} {ls ls₁ : List ℕ} {is : List Item} (i : Item) → Takes w s bs ls i (Going w₁ s₁) bs₁ ls₁ → Gives ending y bs' ls' w₁ s₁ bs₁ ls₁ is → Gives ending y bs' ls' w s bs ls (i ∷ is)
-    ends : {w : Watch} {s : Slip} {bs : List B} {ls : List ℕ} {is : List Item} (i : Item) (r : Report) → Takes w s bs ls i (Ended r) bs' ls' → y ≡ ended r → Gives ending y bs' ls' w s bs ls (i ∷ is)
-    refuses : {w : Watch} {s : Slip} {bs : List B} {ls : List ℕ} {is : List Item} (i : Item) (w₁ : Watch) (s₁ : Slip) (fault : WatchFault) → Takes w s bs ls i (Refused w₁ s₁ fault) bs' ls' → y ≡ stopped_by_item (stopping w₁) fault → Gives ending y bs' ls' w s bs ls (i ∷ is)
+  pub data Gives (ending : Bool) (y : Answer) (bs'' : List B) (ls'' : List ℕ) : Watch → Slip → List B → List ℕ → List Item → Type 0 where
+    at_end : {w : Watch} {s : Slip} {bs : List B} {ls : List ℕ} → ending ≡ true → (r : Report) → Closes w r → y ≡ ended r → Unchanged had admits reach N d bs ls bs'' ls'' → Gives ending y bs'' ls'' w s bs ls []
+    at_fault : {w : Watch} {s : Slip} {bs : List B} {ls : List ℕ} → ending ≡ false → y ≡ stopped_by_source (stopping w) → Unchanged had admits reach N d bs ls bs'' ls'' → Gives ending y bs'' ls'' w s bs ls []
+    goes_on : {w w' : Watch} {s s' : Slip} {bs bs' : List B} {ls ls' : List ℕ} {is : List Item} (i : Item) → Takes w s bs ls i (Going w' s') bs' ls' → Gives ending y bs'' ls'' w' s' bs' ls' is → Gives ending y bs'' ls'' w s bs ls (i ∷ is)
+    ends : {w : Watch} {s : Slip} {bs : List B} {ls : List ℕ} {is : List Item} (i : Item) (r : Report) → Takes w s bs ls i (Ended r) bs'' ls'' → y ≡ ended r → Gives ending y bs'' ls'' w s bs ls (i ∷ is)
+    refuses : {w : Watch} {s : Slip} {bs : List B} {ls : List ℕ} {is : List Item} (i : Item) (w' : Watch) (s' : Slip) (fault : WatchFault) → Takes w s bs ls i (Refused w' s' fault) bs'' ls'' → y ≡ stopped_by_item (stopping w') fault → Gives ending y bs'' ls'' w s bs ls (i ∷ is)
 
   -- a follow of a source with these items to come, and behind them its end (true) or its fault (false)
   pub data Follows (w : Watch) (s : Slip) (bs : List B) (ls : List ℕ) (is : List Item) (ending : Bool) (y : Answer) (bs' : List B) (ls' : List ℕ) : Type 0 where

@@ -42,7 +42,7 @@ module _ {B : Type 0} (had : ℕ → Type 0) (admits : B → ℕ → ℤ → Typ
   taken (at_fault e a u) = []
   taken (goes_on i x g) = i ∷ taken g
   taken (ends i r x a) = i ∷ []
-  taken (refuses i w₁ s₁ fault x a) = []
+  taken (refuses i w' s' fault x a) = []
 
   -- and where it left the shift: closed exactly where it met the end
   abbrev pub leaves : {ending : Bool} {y : Answer} {bs' : List B} {ls' : List ℕ} {w : Watch} {s : Slip} {bs : List B} {ls : List ℕ} {is : List Item} → Gives had admits reach N d ending y bs' ls' w s bs ls is → Stage B
@@ -50,7 +50,7 @@ module _ {B : Type 0} (had : ℕ → Type 0) (admits : B → ℕ → ℤ → Typ
   leaves (at_fault {w = w} e a u) = broken_off (stopping w)
   leaves (goes_on i x g) = leaves g
   leaves (ends i r x a) = broken_off r
-  leaves (refuses i w₁ s₁ fault x a) = broken_off (stopping w₁)
+  leaves (refuses i w' s' fault x a) = broken_off (stopping w')
 
   -- the same of a follow that may itself be refused
   abbrev pub followed : {w : Watch} {s : Slip} {bs : List B} {ls : List ℕ} {is : List Item} {ending : Bool} {y : Answer} {bs' : List B} {ls' : List ℕ} → Follows had admits reach N d w s bs ls is ending y bs' ls' → List Item
@@ -88,7 +88,7 @@ module _ {B : Type 0} (had : ℕ → Type 0) (admits : B → ℕ → ℤ → Typ
   FitsGives (at_fault e a u) = Unit {0}
   FitsGives (goes_on {w = w} {bs = bs} {ls = ls} i x g) = FitsItem w bs ls i × FitsGives g
   FitsGives (ends {w = w} {bs = bs} {ls = ls} i r x a) = FitsItem w bs ls i
-  FitsGives (refuses i w₁ s₁ fault x a) = Unit {0}
+  FitsGives (refuses i w' s' fault x a) = Unit {0}
 
   abbrev pub FitsFollow : {w : Watch} {s : Slip} {bs : List B} {ls : List ℕ} {is : List Item} {ending : Bool} {y : Answer} {bs' : List B} {ls' : List ℕ} → Follows had admits reach N d w s bs ls is ending y bs' ls' → Type 0
   FitsFollow (follow_without_rows h a u) = Unit {0}
