@@ -4,6 +4,7 @@ pub mod Opening
 pub mod Seeing
 pub mod OneReply
 pub mod Determinate
+pub mod Rows
 pub mod Words
 pub mod Runs
 pub mod Steps
