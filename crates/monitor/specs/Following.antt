@@ -38,13 +38,20 @@ module _ {B : Type 0} (had : ℕ → Type 0) (admits : B → ℕ → ℤ → Typ
 
   -- a watch given the items to come, each on what the one before left, to the end behind them (true) or the fault there (false), to a break or an overrun, or to an item that is refused
   pub data Gives (ending : Bool) (y : Answer) (bs'' : List B) (ls'' : List ℕ) : Watch → Slip → List B → List ℕ → List Item → Type 0 where
+    -- nothing is to come, and there is the end: the watch is closed
     at_end : {w : Watch} {s : Slip} {bs : List B} {ls : List ℕ} → ending ≡ true → (r : Report) → Closes w r → y ≡ ended r → Unchanged had admits reach N d bs ls bs'' ls'' → Gives ending y bs'' ls'' w s bs ls []
+    -- or the fault
     at_fault : {w : Watch} {s : Slip} {bs : List B} {ls : List ℕ} → ending ≡ false → y ≡ stopped_by_source (stopping w) → Unchanged had admits reach N d bs ls bs'' ls'' → Gives ending y bs'' ls'' w s bs ls []
+    -- the first item goes on, and the others are given to what it left
     goes_on : {w w' : Watch} {s s' : Slip} {bs bs' : List B} {ls ls' : List ℕ} {is : List Item} (i : Item) → Takes w s bs ls i (Going w' s') bs' ls' → Gives ending y bs'' ls'' w' s' bs' ls' is → Gives ending y bs'' ls'' w s bs ls (i ∷ is)
+    -- it breaks or overruns
     ends : {w : Watch} {s : Slip} {bs : List B} {ls : List ℕ} {is : List Item} (i : Item) (r : Report) → Takes w s bs ls i (Ended r) bs'' ls'' → y ≡ ended r → Gives ending y bs'' ls'' w s bs ls (i ∷ is)
+    -- it is refused
     refuses : {w : Watch} {s : Slip} {bs : List B} {ls : List ℕ} {is : List Item} (i : Item) (w' : Watch) (s' : Slip) (fault : WatchFault) → Takes w s bs ls i (Refused w' s' fault) bs'' ls'' → y ≡ stopped_by_item (stopping w') fault → Gives ending y bs'' ls'' w s bs ls (i ∷ is)
 
   -- a follow of a source with these items to come, and behind them its end (true) or its fault (false)
   pub data Follows (w : Watch) (s : Slip) (bs : List B) (ls : List ℕ) (is : List Item) (ending : Bool) (y : Answer) (bs' : List B) (ls' : List ℕ) : Type 0 where
+    -- the rows are too short, and the source is not asked
     follow_without_rows : ¬ (HasRows N w.entries bs ls) → y ≡ returned w s (Rows w.items) → Unchanged had admits reach N d bs ls bs' ls' → Follows w s bs ls is ending y bs' ls'
+    -- its items are given
     follows : HasRows N w.entries bs ls → Gives ending y bs' ls' w s bs ls is → Follows w s bs ls is ending y bs' ls'

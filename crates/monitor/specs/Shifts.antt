@@ -57,12 +57,14 @@ module _ {B : Type 0} (had : ℕ → Type 0) (admits : B → ℕ → ℤ → Typ
   followed (follow_without_rows h a u) = []
   followed (follows h g) = taken g
 
+  -- and where that left the shift
   abbrev pub follow_leaves : {w : Watch} {s : Slip} {bs : List B} {ls : List ℕ} {is : List Item} {ending : Bool} {y : Answer} {bs' : List B} {ls' : List ℕ} → Follows had admits reach N d w s bs ls is ending y bs' ls' → Stage B
   follow_leaves {w} {s} {bs} {ls} {is} {ending} {y} {bs'} {ls'} (follow_without_rows h a u) = standing w s bs' ls'
   follow_leaves (follows h g) = leaves g
 
   -- a shift with this trace, and where it stands: an open that is not refused, over any rows, and calls on its watch, network and rows, each on what the one before left
   pub data Shift : List Item → Stage B → Type 0 where
+    -- the open
     shift_opens : (bs : List B) (ls : List ℕ) (entries : ℕ) (w : Watch) (s : Slip) (bs' : List B) (ls' : List ℕ) → Opens had admits reach N d bs ls entries (Ok (w, s)) bs' ls' → Shift [] (standing w s bs' ls')
     -- a wait or see that goes on
     shift_goes_on : {t : List Item} {w : Watch} {s : Slip} {bs : List B} {ls : List ℕ} → Shift t (standing w s bs ls) → (i : Item) (w' : Watch) (s' : Slip) (bs' : List B) (ls' : List ℕ) → Takes had admits reach N d w s bs ls i (Going w' s') bs' ls' → Shift (t ++ (i ∷ [])) (standing w' s' bs' ls')
@@ -70,7 +72,9 @@ module _ {B : Type 0} (had : ℕ → Type 0) (admits : B → ℕ → ℤ → Typ
     shift_ends : {t : List Item} {w : Watch} {s : Slip} {bs : List B} {ls : List ℕ} → Shift t (standing w s bs ls) → (i : Item) (r : Report) (bs' : List B) (ls' : List ℕ) → Takes had admits reach N d w s bs ls i (Ended r) bs' ls' → Shift (t ++ (i ∷ [])) (broken_off r)
     -- one that is refused is no item of the trace
     shift_refuses : {t : List Item} {w : Watch} {s : Slip} {bs : List B} {ls : List ℕ} → Shift t (standing w s bs ls) → (i : Item) (w' : Watch) (s' : Slip) (fault : WatchFault) (bs' : List B) (ls' : List ℕ) → Takes had admits reach N d w s bs ls i (Refused w' s' fault) bs' ls' → Shift t (standing w' s' bs' ls')
+    -- a close
     shift_closes : {t : List Item} {w : Watch} {s : Slip} {bs : List B} {ls : List ℕ} → Shift t (standing w s bs ls) → (r : Report) → Closes w r → Shift t (closed r)
+    -- a follow, to whatever it comes
     shift_follows : {t : List Item} {w : Watch} {s : Slip} {bs : List B} {ls : List ℕ} → Shift t (standing w s bs ls) → (is : List Item) (ending : Bool) (y : Answer) (bs' : List B) (ls' : List ℕ) (f : Follows had admits reach N d w s bs ls is ending y bs' ls') → Shift (t ++ followed f) (follow_leaves f)
 
   -- ---- growth that fits
@@ -90,6 +94,7 @@ module _ {B : Type 0} (had : ℕ → Type 0) (admits : B → ℕ → ℤ → Typ
   FitsGives (ends {w = w} {bs = bs} {ls = ls} i r x a) = FitsItem w bs ls i
   FitsGives (refuses i w' s' fault x a) = Unit {0}
 
+  -- a follow that is itself refused adds none
   abbrev pub FitsFollow : {w : Watch} {s : Slip} {bs : List B} {ls : List ℕ} {is : List Item} {ending : Bool} {y : Answer} {bs' : List B} {ls' : List ℕ} → Follows had admits reach N d w s bs ls is ending y bs' ls' → Type 0
   FitsFollow (follow_without_rows h a u) = Unit {0}
   FitsFollow (follows h g) = FitsGives g
@@ -112,6 +117,7 @@ module _ {B : Type 0} where
   Reports (closed q) r = q ≡ r
   Reports (broken_off q) r = q ≡ r
 
+  -- it was closed
   abbrev pub IsClosed : Stage B → Type 0
   IsClosed (standing w s bs ls) = ⊥
   IsClosed (closed r) = Unit {0}
@@ -155,9 +161,11 @@ module _ (K : Kind) (N : Model) where
       pub split : t ≡ before ++ (item ∷ [])
       pub blames : Blames before item
 
+    -- where a shift with the trace t broke, and what it reports, is as the runs say
     pub record ByRuns : Type 0 where
       -- an item of the trace breaks it exactly when no run has the trace up to and with that item
       pub breaks : (before after : List Item) (i : Item) → t ≡ before ++ (i ∷ after) → (Broke stage × (after ≡ [])) ↔ (¬ (HasTrace K N (before ++ (i ∷ []))))
+      -- it fails exactly when it broke by the system's fault
       pub fails : (r : Report) → Reports stage r → (r.verdict ≡ Fail) ↔ FailedBy
       -- it passes exactly when it was closed and some run has its trace
       pub passes : (r : Report) → Reports stage r → (r.verdict ≡ Pass) ↔ (IsClosed stage × HasTrace K N t)
@@ -169,6 +177,7 @@ abbrev pub Names : Model → Item → Type 0
 Names N (Wait d) = Unit {0}
 Names N (See k) = Visible N k
 
+-- it names inputs and outputs of the network only, and has no more items and ticks than a watch may take
 pub record LawfulTrace (N : Model) (t : List Item) : Type 0 where
   pub named : AllByRecursion (Names N) t
   pub items : length t ≤ most
