@@ -11,3 +11,14 @@ pub mod Steps
 pub mod Whole
 pub mod Decided
 pub mod Places
+pub mod Able
+pub mod Known
+pub mod Ones
+pub mod CallByCall
+pub mod Clock
+pub mod Stands
+pub mod Asking
+pub mod Twos
+pub mod Shifts
+pub mod Tight
+pub mod Examples

@@ -4,3 +4,4 @@ pub mod Waiting
 pub mod Calls
 pub mod Following
 pub mod Shifts
+pub mod Examples

@@ -7,6 +7,7 @@ ghost use Rattle.estimate.specs.Stores.{network_in, HasRoom, SameStore, LeftAlon
 ghost use Rattle.monitor.specs.declared.watch.Reply.TheVariants.{Ended};
 ghost use Rattle.monitor.specs.Rows.{HasRows};
 ghost use Rattle.monitor.specs.Replies.{most, overrunning, see_verdict};
+ghost use Rattle.monitor.specs.Examples.{ExampleShifts};
 ghost use Rattle.monitor.specs.Calls.{Visible, Opens, Waits, WaitIn, Sees, SeeIn, Closes, WaitDetermined, SeeDetermined};
 
 use crate::WatchFault;
@@ -304,6 +305,7 @@ impl Watch {
     // The watch ends, and nothing has broken it.
     pub fn close(self, slip: Slip) -> Report
         ensures closes { Closes self result }
+        ensures example_shifts { ExampleShifts }
     {
         slip.spend();
         Report {
