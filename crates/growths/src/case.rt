@@ -3,7 +3,7 @@ ghost use Rattle.std.specs.Prelude.{◌<◌, ◌≤◌};
 
 use zones::Ticks;
 
-// A see on the channel, and how many ticks of growth behind it.
+// A see on the channel, and how many ticks of growth follow it.
 #[derive(Clone, Copy, Debug, PartialEq, Eq)]
 pub(crate) struct Sight {
     pub(crate) channel: u8,
@@ -33,6 +33,16 @@ fn loose_of(text: &str) -> Option<bool> {
     }
 }
 
+// A watch goes so far and no further, and the ticks before the see count, too.
+fn sight_of(before: Ticks, channel: &str, behind: &str) -> Option<Sight> {
+    let behind = ticks_of(behind)?;
+    Ticks::new(before.count() + behind.count())?;
+    Some(Sight {
+        channel: channel.parse().ok()?,
+        behind,
+    })
+}
+
 // The case of a line, or None where a field has no such value or the line has too few or too many.
 pub(crate) fn case_of(text: &str) -> Option<Case<'_>> {
     let mut fields = text.split(' ');
@@ -42,10 +52,7 @@ pub(crate) fn case_of(text: &str) -> Option<Case<'_>> {
     let loose = loose_of(fields.next()?)?;
     let sight = match fields.next() {
         None => None,
-        Some(channel) => Some(Sight {
-            channel: channel.parse().ok()?,
-            behind: ticks_of(fields.next()?)?,
-        }),
+        Some(channel) => Some(sight_of(ticks, channel, fields.next()?)?),
     };
     if entries == 0 || entries > 256 || fields.next().is_some() {
         return None;

@@ -3,10 +3,11 @@
 //     SHEET TICKS ENTRIES MODE
 //     SHEET TICKS ENTRIES MODE CHANNEL BEHIND
 //
-// SHEET is the bytes of a sheet in hexadecimal, and ENTRIES how many entries there are places for. The estimate
-// of the start is grown to TICKS, where MODE is `strict` with all limits kept, and where it is `loose` without
-// those of the system's side. In the longer form it is then taken through a see on CHANNEL at TICKS, and what
-// that leaves is grown to BEHIND ticks in the same mode.
+// SHEET is the bytes of a sheet in hexadecimal, and ENTRIES how many entries there are places for, 1 to 256. The
+// estimate of the start is grown to TICKS, where MODE is `strict` with all limits kept, and where it is `loose`
+// without those of the system's side. In the longer form it is then taken through a see on CHANNEL, 0 to 255, at
+// TICKS, and what that leaves is grown to BEHIND ticks in the same mode; both are together at most
+// 1,000,000,000,000, as in a watch. On a channel that is hidden or that there is not, no move is seen.
 //
 // Prints for each case a line: `refused` where a field has no such value or the sheet is refused, and else what
 // each step comes to, with ` | ` between. A growth comes to how many entries it has, the locations of each, process
