@@ -22,3 +22,6 @@ pub mod Twos
 pub mod Shifts
 pub mod Tight
 pub mod Examples
+pub mod Staying
+pub mod Waits
+pub mod Following

@@ -1,5 +1,5 @@
 -- A follow: items given to wait or see one after another, as a source has them to come.
-use Rattle.std.specs.Prelude.{◌≡◌, ℕ, Bool, true, false, List, [], ◌∷◌, ℤ}
+use Rattle.std.specs.Prelude.{◌≡◌, ℕ, Bool, true, false, List, [], ◌∷◌, ℤ, Result, Ok, Err}
 use Rattle.source.specs.declared.Item.{Item}
 use Rattle.source.specs.declared.Item.TheVariants.{Wait, See}
 use Rattle.model.specs.Model.{Model}
@@ -8,6 +8,10 @@ use Rattle.report.specs.declared.Cause.TheVariants.{Refused as Stopped}
 use Rattle.report.specs.declared.Report.{Report}
 use Rattle.monitor.specs.declared.fault.WatchFault.{WatchFault}
 use Rattle.monitor.specs.declared.fault.WatchFault.TheVariants.{Rows}
+use Rattle.monitor.specs.declared.follow.Stop.{Stop}
+use Rattle.monitor.specs.declared.follow.Stop.TheVariants as why
+use Rattle.monitor.specs.declared.follow.Followed.{Followed}
+use Rattle.monitor.specs.declared.follow.Followed.TheVariants as outcome
 use Rattle.monitor.specs.declared.watch.Watch.{Watch}
 use Rattle.monitor.specs.declared.watch.Slip.{Slip}
 use Rattle.monitor.specs.declared.watch.Reply.{Reply}
@@ -55,3 +59,46 @@ module _ {B : Type 0} (had : ℕ → Type 0) (admits : B → ℕ → ℤ → Typ
     follow_without_rows : ¬ (HasRows N w.entries bs ls) → y ≡ returned w s (Rows w.items) → Unchanged had admits reach N d bs ls bs' ls' → Follows w s bs ls is ending y bs' ls'
     -- its items are given
     follows : HasRows N w.entries bs ls → Gives ending y bs' ls' w s bs ls is → Follows w s bs ls is ending y bs' ls'
+
+-- ---- what a follow of a source of type S, with faults of type F, answers
+
+module _ {F : Type 0} where
+  -- a source meets its end, and not a fault
+  abbrev pub meets_end : Result (Unit {0}) F → Bool
+  meets_end (Ok _) = true
+  meets_end (Err fault) = false
+
+  abbrev pub stopped : Report → Stop F → Answer
+  stopped r (why.Source fault) = stopped_by_source r
+  stopped r (why.Item fault) = stopped_by_item r fault
+
+  -- of the items given, in rows that are long enough
+  abbrev pub given_of : Result Report (Report × Stop F) → Answer
+  given_of (Ok r) = ended r
+  given_of (Err (r, stop)) = stopped r stop
+
+  abbrev pub IsFault : Result (Unit {0}) F → Stop F → Type 0
+  IsFault ending (why.Source fault) = ending ≡ Err fault
+  IsFault ending (why.Item fault) = Unit {0}
+
+  abbrev pub GivesFault : Result (Unit {0}) F → Result Report (Report × Stop F) → Type 0
+  GivesFault ending (Ok r) = Unit {0}
+  GivesFault ending (Err (r, stop)) = IsFault ending stop
+
+  module _ {S : Type 0} where
+    abbrev pub answer_of : Followed S F → Answer
+    answer_of (outcome.Ended r) = ended r
+    answer_of (outcome.Stopped r stop) = stopped r stop
+    answer_of (outcome.Refused w s source fault) = returned w s fault
+
+    -- a follow that is refused hands back the very source
+    abbrev pub HandsBack : S → Followed S F → Type 0
+    HandsBack source (outcome.Ended r) = Unit {0}
+    HandsBack source (outcome.Stopped r stop) = Unit {0}
+    HandsBack source (outcome.Refused w s back fault) = back ≡ source
+
+    -- one that is stopped by its source carries the fault of the source's ending, whole
+    abbrev pub CarriesFault : Result (Unit {0}) F → Followed S F → Type 0
+    CarriesFault ending (outcome.Ended r) = Unit {0}
+    CarriesFault ending (outcome.Stopped r stop) = IsFault ending stop
+    CarriesFault ending (outcome.Refused w s back fault) = Unit {0}

@@ -2,8 +2,10 @@
 #![tactic(auto)]
 
 mod fault;
+mod follow;
 mod growing;
 mod watch;
 
 pub use fault::WatchFault;
+pub use follow::{Followed, Stop};
 pub use watch::{Reply, Slip, Watch, open};

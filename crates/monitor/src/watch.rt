@@ -31,11 +31,11 @@ const MOST_ENTRIES: usize = 256;
 // so that the rows stay the caller's; neither copied nor cloned, so that a call takes the one there is.
 #[derive(Drop)]
 pub struct Watch {
-    entries: usize,
+    pub(crate) entries: usize,
     estimate: usize,
-    tick: u64,
+    pub(crate) tick: u64,
     since: u64,
-    items: u64,
+    pub(crate) items: u64,
 }
 
 // What an open watch comes with. It is spent where the watch ends, and may be dropped only then, so
@@ -53,7 +53,7 @@ impl Drop for Slip {
 }
 
 impl Slip {
-    fn spend(self) {
+    pub(crate) fn spend(self) {
         let mut slip = self;
         slip.spent = true;
     }
@@ -69,7 +69,7 @@ pub enum Reply {
 }
 
 // Whether so many entries, and a work entry of bounds, can be had in these rows.
-fn has_rows<T>(network: &Network, bounds: &[T], locations: &[u8], entries: usize) -> bool
+pub(crate) fn has_rows<T>(network: &Network, bounds: &[T], locations: &[u8], entries: usize) -> bool
     ensures tells { Tells result (HasRows (model_of network.now) entries bounds.now locations.now) }
 {
     if !(1..=MOST_ENTRIES).contains(&entries) {
