@@ -7,8 +7,9 @@ ghost use Rattle.estimate.specs.Stores.{network_in, HasRoom, SameStore, LeftAlon
 ghost use Rattle.monitor.specs.declared.watch.Reply.TheVariants.{Ended};
 ghost use Rattle.monitor.specs.Rows.{HasRows};
 ghost use Rattle.monitor.specs.Replies.{most, overrunning, see_verdict};
-ghost use Rattle.monitor.specs.Examples.{ExampleShifts};
 ghost use Rattle.monitor.specs.Calls.{Visible, Opens, Waits, WaitIn, Sees, SeeIn, Closes, WaitDetermined, SeeDetermined};
+ghost use Rattle.monitor.specs.Examples.{ExampleShifts};
+ghost use Rattle.monitor.specs.Shifts.{VerdictsByRuns, WordsDecide, FitsByCause};
 
 use crate::WatchFault;
 use crate::growing::{Waited, wait};
@@ -79,7 +80,8 @@ pub(crate) fn has_rows<T>(network: &Network, bounds: &[T], locations: &[u8], ent
     side * side * (entries + 1) <= bounds.len() && 8 * entries <= locations.len()
 }
 
-// Opens a watch over rows for so many entries: the network is at its start.
+// Opens a watch over rows for so many entries: the network is at its start. What is said of every
+// shift stands here, since every shift begins here.
 pub fn open<T: TimeKind>(
     network: &Network,
     bounds: &mut [T],
@@ -87,6 +89,9 @@ pub fn open<T: TimeKind>(
     entries: usize,
 ) -> Result<(Watch, Slip), WatchFault>
     ensures opens { (d : T) → Opens T.had T.admits T.reach (model_of network.now) d bounds.old locations.old entries result bounds.new locations.new }
+    ensures verdicts_by_runs { VerdictsByRuns T.had T.admits T.reach }
+    ensures words_decide { WordsDecide T.had T.admits T.reach }
+    ensures fits_by_cause { FitsByCause T.had T.admits T.reach }
 {
     if !has_rows(network, bounds, locations, entries) {
         return Err(WatchFault::Rows(0));
