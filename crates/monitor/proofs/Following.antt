@@ -47,21 +47,21 @@ module _ {B : Type 0} (had : ℕ → Type 0) (admits : B → ℕ → ℤ → Typ
   takes_see i k r bs' ls' e x = subst (λ j. Takes had admits reach N d w s bs ls j r bs' ls') (sym e) x
 
   -- one turn of a follow of a source, from the source's answer
-  module _ {F : Type 0} (is : List Item) (e : Result (Unit {0}) F) (y : Answer) (bs' : List B) (ls' : List ℕ) where
-    pub gives_end : Ok None ≡ next_of is e → (r : Report) → Closes w r → y ≡ ended r → bs' ≡ bs → ls' ≡ ls → Gives had admits reach N d (meets_end e) y bs' ls' w s bs ls is
-    gives_end q r c a b l = subst (Gives had admits reach N d (meets_end e) y bs' ls' w s bs ls) (sym (none_left is e q)) (at_end (at_its_end is e q) r c a (b, l))
+  module _ {F : Type 0} (is : List Item) (e : Result (Unit {0}) F) (y : Answer) (bs'' : List B) (ls'' : List ℕ) where
+    pub gives_end : Ok None ≡ next_of is e → (r : Report) → Closes w r → y ≡ ended r → bs'' ≡ bs → ls'' ≡ ls → Gives had admits reach N d (meets_end e) y bs'' ls'' w s bs ls is
+    gives_end q r c a b l = subst (Gives had admits reach N d (meets_end e) y bs'' ls'' w s bs ls) (sym (none_left is e q)) (at_end (at_its_end is e q) r c a (b, l))
 
-    pub gives_fault : (f : F) → Err f ≡ next_of is e → y ≡ stopped_by_source (stopping w) → bs' ≡ bs → ls' ≡ ls → Gives had admits reach N d (meets_end e) y bs' ls' w s bs ls is
-    gives_fault f q a b l = subst (Gives had admits reach N d (meets_end e) y bs' ls' w s bs ls) (sym (none_left_at_fault is e f q)) (at_fault (ap meets_end (its_fault is e f q)) a (b, l))
+    pub gives_fault : (f : F) → Err f ≡ next_of is e → y ≡ stopped_by_source (stopping w) → bs'' ≡ bs → ls'' ≡ ls → Gives had admits reach N d (meets_end e) y bs'' ls'' w s bs ls is
+    gives_fault f q a b l = subst (Gives had admits reach N d (meets_end e) y bs'' ls'' w s bs ls) (sym (none_left_at_fault is e f q)) (at_fault (ap meets_end (its_fault is e f q)) a (b, l))
 
-    pub gives_on : (i : Item) → Ok (Some i) ≡ next_of is e → (w₁ : Watch) (s₁ : Slip) (bs₁ : List B) (ls₁ : List ℕ) (r : Reply) → r ≡ Going w₁ s₁ → Takes had admits reach N d w s bs ls i r bs₁ ls₁ → (is₁ : List Item) → is₁ ≡ rest_of is → (e₁ : Result (Unit {0}) F) → e₁ ≡ e → Gives had admits reach N d (meets_end e₁) y bs' ls' w₁ s₁ bs₁ ls₁ is₁ → Gives had admits reach N d (meets_end e) y bs' ls' w s bs ls is
-    gives_on i q w₁ s₁ bs₁ ls₁ r u x is₁ rest e₁ same g =
-        subst (Gives had admits reach N d (meets_end e) y bs' ls' w s bs ls) (sym (got is e i q))
-          (goes_on i (subst (λ z. Takes had admits reach N d w s bs ls i z bs₁ ls₁) u x)
-            (subst (Gives had admits reach N d (meets_end e) y bs' ls' w₁ s₁ bs₁ ls₁) rest (subst (λ z. Gives had admits reach N d (meets_end z) y bs' ls' w₁ s₁ bs₁ ls₁ is₁) same g)))
+    pub gives_on : (i : Item) → Ok (Some i) ≡ next_of is e → (w' : Watch) (s' : Slip) (bs' : List B) (ls' : List ℕ) (r : Reply) → r ≡ Going w' s' → Takes had admits reach N d w s bs ls i r bs' ls' → (is' : List Item) → is' ≡ rest_of is → (e' : Result (Unit {0}) F) → e' ≡ e → Gives had admits reach N d (meets_end e') y bs'' ls'' w' s' bs' ls' is' → Gives had admits reach N d (meets_end e) y bs'' ls'' w s bs ls is
+    gives_on i q w' s' bs' ls' r u x is' rest e' same g =
+        subst (Gives had admits reach N d (meets_end e) y bs'' ls'' w s bs ls) (sym (got is e i q))
+        (goes_on i (subst (λ z. Takes had admits reach N d w s bs ls i z bs' ls') u x)
+        (subst (Gives had admits reach N d (meets_end e) y bs'' ls'' w' s' bs' ls') rest (subst (λ z. Gives had admits reach N d (meets_end z) y bs'' ls'' w' s' bs' ls' is') same g)))
 
-    pub gives_last : (i : Item) → Ok (Some i) ≡ next_of is e → (report : Report) (r : Reply) → r ≡ Ended report → y ≡ ended report → Takes had admits reach N d w s bs ls i r bs' ls' → Gives had admits reach N d (meets_end e) y bs' ls' w s bs ls is
-    gives_last i q report r u a x = subst (Gives had admits reach N d (meets_end e) y bs' ls' w s bs ls) (sym (got is e i q)) (ends i report (subst (λ z. Takes had admits reach N d w s bs ls i z bs' ls') u x) a)
+    pub gives_last : (i : Item) → Ok (Some i) ≡ next_of is e → (report : Report) (r : Reply) → r ≡ Ended report → y ≡ ended report → Takes had admits reach N d w s bs ls i r bs'' ls'' → Gives had admits reach N d (meets_end e) y bs'' ls'' w s bs ls is
+    gives_last i q report r u a x = subst (Gives had admits reach N d (meets_end e) y bs'' ls'' w s bs ls) (sym (got is e i q)) (ends i report (subst (λ z. Takes had admits reach N d w s bs ls i z bs'' ls'') u x) a)
 
-    pub gives_refused : (i : Item) → Ok (Some i) ≡ next_of is e → (w₁ : Watch) (s₁ : Slip) (fault : WatchFault) (r : Reply) → r ≡ Refused w₁ s₁ fault → y ≡ stopped_by_item (stopping w₁) fault → Takes had admits reach N d w s bs ls i r bs' ls' → Gives had admits reach N d (meets_end e) y bs' ls' w s bs ls is
-    gives_refused i q w₁ s₁ fault r u a x = subst (Gives had admits reach N d (meets_end e) y bs' ls' w s bs ls) (sym (got is e i q)) (refuses i w₁ s₁ fault (subst (λ z. Takes had admits reach N d w s bs ls i z bs' ls') u x) a)
+    pub gives_refused : (i : Item) → Ok (Some i) ≡ next_of is e → (w' : Watch) (s' : Slip) (fault : WatchFault) (r : Reply) → r ≡ Refused w' s' fault → y ≡ stopped_by_item (stopping w') fault → Takes had admits reach N d w s bs ls i r bs'' ls'' → Gives had admits reach N d (meets_end e) y bs'' ls'' w s bs ls is
+    gives_refused i q w' s' fault r u a x = subst (Gives had admits reach N d (meets_end e) y bs'' ls'' w s bs ls) (sym (got is e i q)) (refuses i w' s' fault (subst (λ z. Takes had admits reach N d w s bs ls i z bs'' ls'') u x) a)

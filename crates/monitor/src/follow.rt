@@ -113,3 +113,100 @@ impl Watch {
         }
     }
 }
+
+#[cfg(test)]
+mod tests {
+    use super::*;
+    use crate::open;
+    use network::read_sheet;
+    use source::{Queue, Recording, RecordingFault};
+    use time::WholeTicks;
+    use wire::ByteFault;
+
+    // An input, answered by an output 3 to 5 ticks later.
+    const BELL: [u8; 47] = [
+        1, 1, 2, 0, 1, 2, 0, 1, 0, 1, 2, 0, 1, 1, 0, 5, 4, 0, 0, 0, 1, 0, 0, 0, 0, 0, 4, 0, 0, 1,
+        0, 1, 2, 0, 1, 1, 1, 0, 3, 1, 0, 1, 0, 189, 132, 61, 0,
+    ];
+
+    // What a follow by the bell comes to, and why it was stopped, if it was.
+    fn follow_bell<S: TraceSource + Drop>(source: S) -> Option<(Report, Option<Stop<S::Fault>>)> {
+        let mut bell = Network::smallest();
+        read_sheet(&BELL, &mut bell).ok()?;
+        let mut bounds = [WholeTicks::none(); 81];
+        let mut locations = [0; 64];
+        let (watch, slip) = open(&bell, &mut bounds, &mut locations, 8).ok()?;
+        match watch.follow(slip, &bell, &mut bounds, &mut locations, source) {
+            Followed::Ended(report) => Some((report, None)),
+            Followed::Stopped(report, stop) => Some((report, Some(stop))),
+            Followed::Refused(watch, slip, _, _) => {
+                watch.close(slip);
+                None
+            }
+        }
+    }
+
+    fn report(verdict: Verdict, cause: Cause, count: u64, tick: u64) -> Report {
+        Report {
+            verdict,
+            cause,
+            count,
+            tick,
+        }
+    }
+
+    #[test]
+    fn to_the_end(rt: HostRuntime) {
+        let items = [Item::See(0), Item::Wait(4), Item::See(1)];
+        let passed = report(Verdict::Pass, Cause::Closed, 3, 4);
+        assert!(rt; follow_bell(Queue::new(&items)) == Some((passed, None)));
+        assert!(rt; follow_bell(Recording::new(&[1, 0, 0, 4, 1, 1, 2])) == Some((passed, None)));
+    }
+
+    #[test]
+    fn to_a_break(rt: HostRuntime) {
+        let items = [Item::See(0), Item::Wait(2), Item::See(1), Item::Wait(9)];
+        let early = report(Verdict::Fail, Cause::BrokenSee, 3, 2);
+        assert!(rt; follow_bell(Queue::new(&items)) == Some((early, None)));
+        let late = report(Verdict::Fail, Cause::BrokenWait, 2, 6);
+        assert!(rt; follow_bell(Recording::new(&[1, 0, 0, 9, 2])) == Some((late, None)));
+    }
+
+    #[test]
+    fn to_a_fault(rt: HostRuntime) {
+        let cut = RecordingFault::Byte(ByteFault::Ends(5));
+        let stopped = report(Verdict::Inconclusive, Cause::Refused, 2, 4);
+        assert!(rt;
+            follow_bell(Recording::new(&[1, 0, 0, 4, 1]))
+                == Some((stopped, Some(Stop::Source(cut))))
+        );
+    }
+
+    #[test]
+    fn to_a_refused_item(rt: HostRuntime) {
+        let items = [Item::See(0), Item::See(7)];
+        let stopped = report(Verdict::Inconclusive, Cause::Refused, 1, 0);
+        let stop = Stop::Item(WatchFault::Channel(1));
+        assert!(rt; follow_bell(Queue::new(&items)) == Some((stopped, Some(stop))));
+    }
+
+    #[test]
+    fn rows_that_are_too_short(rt: HostRuntime) {
+        let network = Network::smallest();
+        let mut bounds = [WholeTicks::none(); 8];
+        let mut locations = [0; 8];
+        let Ok((watch, slip)) = open(&network, &mut bounds, &mut locations, 1) else {
+            assert!(rt; false);
+            return;
+        };
+        let source = Queue::new(&[Item::Wait(7)]);
+        match watch.follow(slip, &network, &mut bounds[1..], &mut locations, source) {
+            Followed::Refused(watch, slip, mut source, fault) => {
+                watch.close(slip);
+                assert!(rt; source.next() == Ok(Some(Item::Wait(7))));
+                assert!(rt; fault == WatchFault::Rows(0));
+            }
+            _ => assert!(rt; false),
+        }
+    }
+}
