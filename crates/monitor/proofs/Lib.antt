@@ -22,6 +22,4 @@ pub mod Twos
 pub mod Shifts
 pub mod Tight
 pub mod Examples
-pub mod Staying
-pub mod Waits
 pub mod Following
