@@ -4,6 +4,8 @@
 mod fault;
 mod follow;
 mod growing;
+#[cfg(test)]
+mod tests;
 mod watch;
 
 pub use fault::WatchFault;
