@@ -67,8 +67,13 @@ fn an_opening_wants_long_rows_and_some_entries(rt: HostRuntime) {
     assert!(rt; is_not_opened(&mut rows.bounds, &mut rows.locations, 0));
     assert!(rt; is_not_opened(&mut rows.bounds, &mut rows.locations, 257));
     assert!(rt; rows == before);
+}
+
+#[test]
+fn an_opening_takes_rows_that_are_just_long_enough(rt: HostRuntime) {
+    let mut rows = Rows::new();
     assert!(rt; !is_not_opened(&mut rows.bounds[..12], &mut rows.locations[..16], 2));
-    assert!(rt; !is_not_opened(&mut rows.bounds[..1028], &mut rows.locations[..2048], 256));
+    assert!(rt; !is_not_opened(&mut [WholeTicks::none(); 1028], &mut [0; 2048], 256));
 }
 
 // A watch that is opened, or goes on.
@@ -304,8 +309,7 @@ fn spoil<T: TimeKind>(bounds: &mut [T], locations: &mut [u8], from: usize) {
 }
 
 // Whether a watch on the bell takes these items, until it ends, though its rows are spoilt before each.
-fn bears<T: TimeKind>(network: &Network, items: &[Item], from: usize) -> bool {
-    let bounds = &mut [T::none(); 369];
+fn bears<T: TimeKind>(network: &Network, bounds: &mut [T], items: &[Item], from: usize) -> bool {
     let locations = &mut [0; 320];
     let Ok((mut watch, mut slip)) = open(network, bounds, locations, 40) else {
         return false;
@@ -335,8 +339,8 @@ fn foreign_rows_are_borne(rt: HostRuntime) {
             &[Item::See(0), Item::Wait(5), Item::See(1)],
             &[Item::See(1), Item::See(0), Item::Wait(u32::MAX)],
         ] {
-            assert!(rt; bears::<WholeTicks>(&bell, items, from));
-            assert!(rt; bears::<SplitTicks>(&bell, items, from));
+            assert!(rt; bears(&bell, &mut [WholeTicks::none(); 369], items, from));
+            assert!(rt; bears(&bell, &mut [SplitTicks::none(); 369], items, from));
         }
     }
 }
