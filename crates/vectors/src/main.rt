@@ -1,13 +1,11 @@
 // Reads cases from standard input, a line each: the bytes of a sheet and of a recording in
-// hexadecimal, `-` for none. Prints for each what `inspect` comes to, on one line.
+// hexadecimal, `-` for none and `!` for a missing file. Prints the line of each, as `watch` does.
 #![tactic(auto)]
 
 ghost use Rattle.std.specs.Prelude.{◌<◌};
 
-use examine::{Fault, Tally, examine};
-use network::Network;
-use report::{refusal_line, write_line};
-use source::RecordingFault;
+use judge::judge;
+use report::write_line;
 use std::alloc::Global;
 use std::io;
 use std::io::{BufRead, BufReader};
@@ -23,7 +21,7 @@ fn digit(b: u8) -> u8
     }
 }
 
-// The bytes that pairs of digits stand for; a lone digit, as `-`, stands for none.
+// The bytes that pairs of digits stand for; a lone digit, as `-` or `!`, stands for none.
 fn bytes_of(heap: Global, text: &[u8]) -> io::Result<Vec<u8>> {
     let mut bytes = Vec::new(heap);
     for [high, low] in text.as_chunks::<2>().0 {
@@ -32,32 +30,14 @@ fn bytes_of(heap: Global, text: &[u8]) -> io::Result<Vec<u8>> {
     Ok(bytes)
 }
 
-fn accepted(rt: &HostRuntime, tally: Tally<RecordingFault>) -> io::Result<()> {
-    let Tally {
-        waits,
-        sees,
-        ticks,
-        ending,
-    } = tally;
-    print!(rt; "accepted waits {waits} sees {sees} ticks {ticks} ")?;
-    // As in inspect: a call for both would take the writer and the ending, and be no shorter.
-    match ending {
-        Ok(()) => println!(rt; "ends"),
-        Err(fault) => write_line(&mut rt.stdout(), &refusal_line(Fault::from(fault).into())),
-    }
-}
-
 fn case(rt: &HostRuntime, text: &str) -> io::Result<()> {
     let Some((sheet, recording)) = text.split_once(' ') else {
         return println!(rt; "no case");
     };
     let sheet = bytes_of(rt.alloc(), sheet.as_bytes())?;
     let recording = bytes_of(rt.alloc(), recording.as_bytes())?;
-    let mut place = Network::smallest();
-    match examine(sheet.as_slice(), recording.as_slice(), &mut place) {
-        Ok(tally) => accepted(rt, tally),
-        Err(fault) => write_line(&mut rt.stdout(), &refusal_line(fault.into())),
-    }
+    let line = judge(sheet.as_slice(), recording.as_slice());
+    write_line(&mut rt.stdout(), &line)
 }
 
 fn main(rt: HostRuntime) -> io::Result<()> {
