@@ -1,5 +1,5 @@
 -- Courses: what the opening and the follow of one say of its line.
-use Rattle.std.proofs.Common.{◌≡◌, ℕ, ◌*◌, ◌≤◌, Bool, ◌↔◌, List, length, ℤ, Some, sym, refl, ap, ◌∙◌, subst, arith}
+use Rattle.std.proofs.Common.{◌≡◌, ℕ, ◌*◌, ◌≤◌, Bool, true, ◌↔◌, List, [], ◌∷◌, ◌++◌, length, ℤ, Some, sym, refl, ap, ◌∙◌, subst, arith}
 use Rattle.std.specs.Prelude.{Result, Ok, Err}
 use Rattle.std.proofs.lemmas.Nat.{mul-le}
 use Rattle.model.specs.Model.{Model}
@@ -24,7 +24,7 @@ use Rattle.monitor.specs.Replies.{opened, unspent}
 use Rattle.monitor.specs.Rows.{HasRows}
 use Rattle.monitor.specs.Calls.{Opens, open_refused, opens}
 use Rattle.monitor.specs.Following.{Answer, ended, stopped_by_source, stopped_by_item, returned, stopped, meets_end, IsFault, Gives, at_end, at_fault, goes_on, ends, refuses, Follows, follow_without_rows, follows}
-use Rattle.monitor.specs.Shifts.{Stage, standing, closed, broken_off, leaves, follow_leaves, Reports, NoOverrun, VerdictsByRuns, FitsByCause}
+use Rattle.monitor.specs.Shifts.{Stage, standing, closed, broken_off, taken, leaves, followed, follow_leaves, Reports, IsClosed, NoOverrun, VerdictsByRuns, FitsByCause}
 use Rattle.judge.specs.declared.Fault.{Fault}
 use Rattle.judge.specs.Refusals.{fault_of, refusal_of}
 use Rattle.judge.specs.Judging.{beside, Course, trace_of, stage_of, shift_of, WatchedBy}
@@ -72,6 +72,33 @@ module _ {B : Type 0} (had : ℕ → Type 0) (admits : B → ℕ → ℤ → Typ
   follow_left w s bs ls is ending y bs' ls' (follow_without_rows short a u) r rows h = absurd (short rows)
   follow_left w s bs ls is ending y bs' ls' (follows enough g) r rows h = gave_left ending y bs' ls' w s bs ls is g r h
 
+  -- a follow takes items from the front of those to come, and all of them to the end where it closes
+  gave_front : (ending : Bool) (y : Answer) (bs' : List B) (ls' : List ℕ) (w : Watch) (s : Slip) (bs : List B) (ls : List ℕ) (is : List Item) (g : Gives had admits reach N d ending y bs' ls' w s bs ls is) → (rest : List Item) × (is ≡ taken had admits reach N d g ++ rest)
+  gave_front ending y bs' ls' w s bs ls is (at_end e q c a u) = ([], refl)
+  gave_front ending y bs' ls' w s bs ls is (at_fault e a u) = ([], refl)
+  gave_front ending y bs' ls' w s bs ls is (goes_on {w' = w₁} {s' = s₁} {bs' = bs₁} {ls' = ls₁} {is = js} i x g) =
+      let f = gave_front ending y bs' ls' w₁ s₁ bs₁ ls₁ js g in
+      (f.0, ap (λ us. i ∷ us) f.1)
+  gave_front ending y bs' ls' w s bs ls is (ends {is = js} i q x a) = (js, refl)
+  gave_front ending y bs' ls' w s bs ls is (refuses {is = js} i w₁ s₁ fault x a) = (i ∷ js, refl)
+
+  pub follow_front : (w : Watch) (s : Slip) (bs : List B) (ls : List ℕ) (is : List Item) (ending : Bool) (y : Answer) (bs' : List B) (ls' : List ℕ) (f : Follows had admits reach N d w s bs ls is ending y bs' ls') → (rest : List Item) × (is ≡ followed had admits reach N d f ++ rest)
+  follow_front w s bs ls is ending y bs' ls' (follow_without_rows short a u) = (is, refl)
+  follow_front w s bs ls is ending y bs' ls' (follows enough g) = gave_front ending y bs' ls' w s bs ls is g
+
+  gave_whole : (ending : Bool) (y : Answer) (bs' : List B) (ls' : List ℕ) (w : Watch) (s : Slip) (bs : List B) (ls : List ℕ) (is : List Item) (g : Gives had admits reach N d ending y bs' ls' w s bs ls is) → IsClosed (leaves had admits reach N d g) → (is ≡ taken had admits reach N d g) × (ending ≡ true)
+  gave_whole ending y bs' ls' w s bs ls is (at_end e q c a u) k = (refl, e)
+  gave_whole ending y bs' ls' w s bs ls is (at_fault e a u) k = absurd k
+  gave_whole ending y bs' ls' w s bs ls is (goes_on {w' = w₁} {s' = s₁} {bs' = bs₁} {ls' = ls₁} {is = js} i x g) k =
+      let f = gave_whole ending y bs' ls' w₁ s₁ bs₁ ls₁ js g k in
+      (ap (λ us. i ∷ us) f.0, f.1)
+  gave_whole ending y bs' ls' w s bs ls is (ends i q x a) k = absurd k
+  gave_whole ending y bs' ls' w s bs ls is (refuses i w₁ s₁ fault x a) k = absurd k
+
+  pub follow_whole : (w : Watch) (s : Slip) (bs : List B) (ls : List ℕ) (is : List Item) (ending : Bool) (y : Answer) (bs' : List B) (ls' : List ℕ) (f : Follows had admits reach N d w s bs ls is ending y bs' ls') → IsClosed (follow_leaves had admits reach N d f) → (is ≡ followed had admits reach N d f) × (ending ≡ true)
+  follow_whole w s bs ls is ending y bs' ls' (follow_without_rows short a u) k = absurd k
+  follow_whole w s bs ls is ending y bs' ls' (follows enough g) k = gave_whole ending y bs' ls' w s bs ls is g k
+
   -- over rows that are long enough no follow is refused
   gives_no_return : (ending : Bool) (y : Answer) (bs' : List B) (ls' : List ℕ) (w : Watch) (s : Slip) (bs : List B) (ls : List ℕ) (is : List Item) (g : Gives had admits reach N d ending y bs' ls' w s bs ls is) (w₀ : Watch) (s₀ : Slip) (fault : WatchFault) → y ≡ returned w₀ s₀ fault → ⊥
   gives_no_return ending y bs' ls' w s bs ls is (at_end e q c a u) w₀ s₀ fault h = cc
@@ -83,6 +110,10 @@ module _ {B : Type 0} (had : ℕ → Type 0) (admits : B → ℕ → ℤ → Typ
   pub no_follow_refused : (w : Watch) (s : Slip) (bs : List B) (ls : List ℕ) (is : List Item) (ending : Bool) (y : Answer) (bs' : List B) (ls' : List ℕ) (f : Follows had admits reach N d w s bs ls is ending y bs' ls') → HasRows N w.entries bs ls → (w₀ : Watch) (s₀ : Slip) (fault : WatchFault) → y ≡ returned w₀ s₀ fault → ⊥
   no_follow_refused w s bs ls is ending y bs' ls' (follow_without_rows short a u) rows w₀ s₀ fault h = short rows
   no_follow_refused w s bs ls is ending y bs' ls' (follows enough g) rows w₀ s₀ fault h = gives_no_return ending y bs' ls' w s bs ls is g w₀ s₀ fault h
+
+ends_well : (ending : Result (Unit {0}) RecordingFault) → meets_end ending ≡ true → ending ≡ Ok tt
+ends_well (Ok tt) e = refl
+ends_well (Err fault) e = cc
 
 -- where a report is given, none of an overrun is one whose cause is no overrun
 no_overrun : {B : Type 0} (stage : Stage B) (r : Report) → Reports stage r → (NoOverrun stage) ↔ (¬ (r.cause ≡ Overrun))
@@ -124,6 +155,8 @@ course_watched verdicts fits_by network d recording line x r gave is =
       report = r;
       reports = reports;
       line_is = is;
+      front = follow_front whole_had whole_admits whole_reach N d x.watch x.slip x.opened_bounds x.opened_locations (items_at recording 0) (meets_end (ending_at recording 0)) x.answer x.left_bounds x.left_locations x.follows;
+      whole = λ k. (let all = follow_whole whole_had whole_admits whole_reach N d x.watch x.slip x.opened_bounds x.opened_locations (items_at recording 0) (meets_end (ending_at recording 0)) x.answer x.left_bounds x.left_locations x.follows k in (all.0, ends_well (ending_at recording 0) all.1));
       fits = (λ f. no.0 (fit.0 f), λ o. fit.1 (no.1 o));
       by_runs = λ o. verdicts network d (trace_of N d recording x) (stage_of N d recording x) (shift_of N d recording x) (fit.1 (no.1 o));
     }

@@ -1,5 +1,5 @@
 -- What the line of a run says: the first refusal of its files, or where the shift on them stands.
-use Rattle.std.specs.Prelude.{◌≡◌, ℕ, ◌<◌, ◌≤◌, ◌⊎◌, ◌↔◌, List, length, Option, Some, None, Result, Ok, Err}
+use Rattle.std.specs.Prelude.{◌≡◌, ℕ, ◌<◌, ◌≤◌, ◌⊎◌, ◌↔◌, List, ◌++◌, length, Option, Some, None, Result, Ok, Err}
 use Rattle.wire.specs.Reading.{taken, refused}
 use Rattle.model.specs.Model.{Model}
 use Rattle.model.specs.Sheet.{read_sheet}
@@ -17,7 +17,7 @@ use Rattle.monitor.specs.declared.watch.Slip.{Slip}
 use Rattle.monitor.specs.declared.watch.Watch.{Watch}
 use Rattle.monitor.specs.Calls.{Opens}
 use Rattle.monitor.specs.Following.{Answer, ended, stopped_by_source, stopped_by_item, returned, meets_end, Follows}
-use Rattle.monitor.specs.Shifts.{Stage, Shift, shift_opens, shift_follows, followed, follow_leaves, Fits, Reports, ByRuns}
+use Rattle.monitor.specs.Shifts.{Stage, Shift, shift_opens, shift_follows, followed, follow_leaves, Fits, Reports, IsClosed, ByRuns}
 use Rattle.judge.specs.Refusals.{too_long_refusal, sheet_refusal, recording_refusal, watch_refusal}
 
 -- the refusal that stands beside the report of a follow: that of the fault behind the items, or of the item, that stopped it
@@ -61,6 +61,9 @@ module _ (N : Model) (d : WholeTicks) (recording : List ℕ) where
     pub report : Report
     pub reports : Reports (stage_of course) report
     pub line_is : line ≡ row_of (report_text report (beside (ending_at recording 0) course.answer))
+    -- its trace is the recording's, from the front, and all of it to its end where the shift was closed
+    pub front : (rest : List Item) × (items_at recording 0 ≡ trace_of course ++ rest)
+    pub whole : IsClosed (stage_of course) → (items_at recording 0 ≡ trace_of course) × (ending_at recording 0 ≡ Ok tt)
     -- its growth fits exactly when the line says no overrun, and then the verdict is by runs
     pub fits : Fits whole_had whole_admits whole_reach N d (shift_of course) ↔ (¬ (report.cause ≡ Overrun))
     pub by_runs : ¬ (report.cause ≡ Overrun) → ByRuns (kind WholeTicks whole_had whole_admits) N (trace_of course) (stage_of course)
