@@ -7,6 +7,7 @@ pub trait Bound: Copy {
     fn tighter(self, other: Self) -> Self;
     fn covers(self, other: Self) -> bool;
     fn admits_zero(self) -> bool;
+    fn last_tick(self) -> Option<i64>;
 }
 
 const NONE: i64 = i64::MAX;
@@ -32,6 +33,9 @@ impl Bound for Whole {
     }
     fn admits_zero(self) -> bool {
         self.0 >= 0
+    }
+    fn last_tick(self) -> Option<i64> {
+        (self.0 != NONE).then_some(self.0)
     }
 }
 
@@ -63,6 +67,9 @@ impl Bound for Split {
     }
     fn admits_zero(self) -> bool {
         self.ticks > 0 || (self.ticks == 0 && !self.strict)
+    }
+    fn last_tick(self) -> Option<i64> {
+        (self.ticks != NONE).then_some(self.ticks - i64::from(self.strict))
     }
 }
 
