@@ -1,12 +1,17 @@
-//! Times the proved code beside hand-written Rust, in one run: the sheet reader on the largest sound
-//! sheet, the closing of matrices of three sizes, growth, and waits, these in both kinds of time.
+//! Times the proved code beside hand-written Rust: the sheet reader on the largest sound sheet, and in both kinds of time the
+//! closing of matrices of three sizes, growths, and waits. A line has what was done, and the microseconds of each.
 mod closing;
 mod growth;
 mod reader;
 mod sheets;
 
+use sheets::Extra;
 use std::hint::black_box;
-use std::time::{Duration, Instant};
+use std::time::Duration;
+
+type Closings = unsafe extern "C" fn(usize, u32) -> u64;
+type Growths = unsafe extern "C" fn(*const u8, usize, u64, u32) -> u64;
+type Waits = unsafe extern "C" fn(*const u8, usize, u32) -> u64;
 
 unsafe extern "C" {
     fn read_sheet_rounds(bytes: *const u8, len: usize, rounds: u32) -> u64;
@@ -16,13 +21,35 @@ unsafe extern "C" {
     fn grow_split_rounds(sheet: *const u8, len: usize, w: u64, rounds: u32) -> u64;
     fn wait_whole_rounds(sheet: *const u8, len: usize, waits: u32) -> u64;
     fn wait_split_rounds(sheet: *const u8, len: usize, waits: u32) -> u64;
+    fn clock_gettime(clock: i32, at: *mut [i64; 2]) -> i32;
 }
 
-fn proved(sheet: &[u8], rounds: u32) -> u64 {
-    unsafe { read_sheet_rounds(sheet.as_ptr(), sheet.len(), rounds) }
+/// The processor's time that this thread has taken (Linux's clock 3): other work on the machine does not count.
+fn now() -> Duration {
+    let mut at = [0; 2];
+    assert_eq!(unsafe { clock_gettime(3, &mut at) }, 0);
+    Duration::new(at[0] as u64, at[1] as u32)
 }
 
-fn by_hand(sheet: &[u8], rounds: u32) -> u64 {
+/// Both do the work so many times, in turn, and answer alike: the best time of each, for the work once, and the answer.
+fn race(what: &str, rounds: u32, proved: impl Fn() -> u64, by_hand: impl Fn() -> u64) -> u64 {
+    let mut best = [Duration::MAX; 2];
+    let mut answers = Vec::new();
+    for _ in 0..15 {
+        let start = now();
+        answers.push(proved());
+        let between = now();
+        answers.push(by_hand());
+        best[0] = best[0].min(between - start);
+        best[1] = best[1].min(now() - between);
+    }
+    assert!(answers.iter().all(|a| *a == answers[0]), "{what}: all answer alike");
+    let [proved, by_hand] = best.map(|d| d.as_secs_f64() * 1e6 / f64::from(rounds));
+    println!("{what}\t{proved:.4}\t{by_hand:.4}");
+    answers[0]
+}
+
+fn read_by_hand(sheet: &[u8], rounds: u32) -> u64 {
     let mut place = reader::Network::smallest();
     let mut edges = 0u64;
     for _ in 0..rounds {
@@ -32,135 +59,73 @@ fn by_hand(sheet: &[u8], rounds: u32) -> u64 {
     edges
 }
 
-fn timed(f: fn(&[u8], u32) -> u64, sheet: &[u8], rounds: u32) -> Duration {
-    let start = Instant::now();
-    let edges = f(black_box(sheet), rounds);
-    let took = start.elapsed();
-    assert_eq!(edges, u64::from(rounds) * 128, "the sheet is sound");
-    took
-}
-
 fn reading() {
     let sheet = sheets::largest();
     assert_eq!(sheet.len(), 5430);
     let rounds = 2_000;
-    let mut best = [Duration::MAX; 2];
-    for _ in 0..15 {
-        best[0] = best[0].min(timed(proved, &sheet, rounds));
-        best[1] = best[1].min(timed(by_hand, &sheet, rounds));
-    }
-    let each = |d: Duration| d.as_secs_f64() * 1e6 / f64::from(rounds);
-    println!(
-        "sheet reader: proved {:.2} us, by hand {:.2} us, ratio {:.2}",
-        each(best[0]),
-        each(best[1]),
-        best[0].as_secs_f64() / best[1].as_secs_f64()
+    let edges = race(
+        "sheet reader",
+        rounds,
+        || unsafe { read_sheet_rounds(black_box(sheet.as_ptr()), sheet.len(), rounds) },
+        || read_by_hand(black_box(&sheet), rounds),
     );
+    assert_eq!(edges, u64::from(rounds) * 128, "the sheet is sound");
 }
 
-fn closings(name: &str, proved: unsafe extern "C" fn(usize, u32) -> u64, by_hand: fn(usize, u32) -> u64) {
+fn closings(name: &str, proved: Closings, by_hand: fn(usize, u32) -> u64) {
     for side in [3usize, 6, 10] {
         let rounds = 2_000_000 / (side * side * side) as u32;
-        let mut best = [Duration::MAX; 2];
-        for _ in 0..15 {
-            let start = Instant::now();
-            let a = unsafe { proved(black_box(side), rounds) };
-            best[0] = best[0].min(start.elapsed());
-            let start = Instant::now();
-            let b = by_hand(black_box(side), rounds);
-            best[1] = best[1].min(start.elapsed());
-            assert_eq!(a, b, "both close alike");
-        }
-        let rate = |d: Duration| (side * side * side) as f64 * f64::from(rounds) / d.as_secs_f64() / 1e6;
-        println!(
-            "closing, {name}, side {side}: proved {:.0} M relaxations/s, by hand {:.0} M/s, ratio of times {:.2}",
-            rate(best[0]),
-            rate(best[1]),
-            best[0].as_secs_f64() / best[1].as_secs_f64()
+        race(
+            &format!("closing, {name}, side {side}"),
+            rounds,
+            || unsafe { proved(black_box(side), rounds) },
+            || by_hand(black_box(side), rounds),
         );
     }
 }
 
-/// Two calls that answer alike, the proved one and the one by hand: the best time of each, and the answer.
-fn race(proved: impl Fn() -> u64, by_hand: impl Fn() -> u64) -> ([Duration; 2], u64) {
-    let mut best = [Duration::MAX; 2];
-    let mut answer = None;
-    for _ in 0..15 {
-        let start = Instant::now();
-        let a = proved();
-        best[0] = best[0].min(start.elapsed());
-        let start = Instant::now();
-        let b = by_hand();
-        best[1] = best[1].min(start.elapsed());
-        assert_eq!(a, b, "both answer alike");
-        assert_eq!(*answer.get_or_insert(a), a, "and each time");
-    }
-    (best, answer.unwrap())
-}
-
-fn ratio(best: [Duration; 2]) -> f64 {
-    best[0].as_secs_f64() / best[1].as_secs_f64()
-}
-
-type Growth = unsafe extern "C" fn(*const u8, usize, u64, u32) -> u64;
-
-/// One growth to `w` ticks: the best time of each in microseconds, their ratio, and the entries.
-fn growth_of(sheet: &[u8], w: u64, proved: Growth, by_hand: fn(&[u8], u64, u32) -> u64) -> (f64, f64, f64, u64) {
-    let start = Instant::now();
-    let entries = by_hand(sheet, w, 10);
+/// So many growths that they take about a hundredth of a second, each with so many entries.
+fn growth_in(name: &str, sheet: &[u8], w: u64, proved: Growths, by_hand: fn(&[u8], u64, u32) -> u64) {
+    let start = now();
+    let entries = by_hand(sheet, w, 1);
+    let rounds = (0.01 / (now() - start).as_secs_f64()).clamp(1.0, 10_000.0) as u32;
+    let all = race(
+        &format!("growth, {name}, {entries} entries"),
+        rounds,
+        || unsafe { proved(black_box(sheet.as_ptr()), sheet.len(), w, rounds) },
+        || by_hand(black_box(sheet), w, rounds),
+    );
     assert!(entries > 0, "the growth has room");
-    let once = start.elapsed().as_secs_f64() / 10.0;
-    let rounds = (0.02 / once).clamp(1.0, 100_000.0) as u32;
-    let (best, answer) = race(
-        || unsafe { proved(black_box(sheet).as_ptr(), sheet.len(), black_box(w), rounds) },
-        || by_hand(black_box(sheet), black_box(w), rounds),
-    );
-    assert_eq!(answer * 10, entries * u64::from(rounds));
-    let each = |d: Duration| d.as_secs_f64() * 1e6 / f64::from(rounds);
-    (each(best[0]), each(best[1]), ratio(best), entries / 10)
+    assert_eq!(all, entries * u64::from(rounds), "each growth takes the same entries");
 }
 
-fn growth(what: &str, sheet: &[u8], w: u64) -> u64 {
-    let (a, b, r, n) = growth_of(sheet, w, grow_whole_rounds, growth::grow_rounds::<closing::Whole>);
-    let (c, d, s, m) = growth_of(sheet, w, grow_split_rounds, growth::grow_rounds::<closing::Split>);
-    println!(
-        "growth, {what}: {n} entries, whole ticks: proved {a:.1} us, by hand {b:.1} us, ratio {r:.2}; \
-         split ticks: {m} entries, proved {c:.1} us, by hand {d:.1} us, ratio {s:.2}"
-    );
-    n
+fn growth(name: &str, sheet: &[u8], w: u64) {
+    growth_in(&format!("whole ticks, {name}"), sheet, w, grow_whole_rounds, growth::grow_rounds::<closing::Whole>);
+    growth_in(&format!("split ticks, {name}"), sheet, w, grow_split_rounds, growth::grow_rounds::<closing::Split>);
 }
 
 fn growths() {
     let full = sheets::full();
-    let n = growth("8 clocks, 60 edges", &full, 1000);
-    assert_eq!(n, 256);
-    for w in [0, 1, 3, 7, 11] {
-        growth(&format!("the same to tick {w}"), &full, w);
+    for w in [0, 1, 3, 7, 11, 1000] {
+        growth(&format!("60 edges, to tick {w}"), &full, w);
     }
-    for (name, extra) in [("idle", sheets::Extra::Idle), ("alone", sheets::Extra::Alone), ("in pairs", sheets::Extra::Pairs)] {
-        for count in [8, 16, 32, 64, 128] {
-            growth(&format!("{count} edges, {name}"), &sheets::with_edges(extra, count), 1000);
+    for (name, extra) in [("idle", Extra::Idle), ("alone", Extra::Alone), ("in pairs", Extra::Pairs)] {
+        for count in [8, 32, 128] {
+            growth(&format!("{count} edges, the more {name}"), &sheets::with_edges(extra, count), 1000);
         }
     }
 }
 
-type Waits = unsafe extern "C" fn(*const u8, usize, u32) -> u64;
-
 fn waits(name: &str, proved: Waits, by_hand: fn(&[u8], u32) -> u64) {
     let sheet = sheets::bell();
     let count = 100_000;
-    let (best, answer) = race(
-        || unsafe { proved(black_box(&sheet).as_ptr(), sheet.len(), count) },
+    let lasting = race(
+        &format!("wait of a tick, {name}, the mean of {count}"),
+        count,
+        || unsafe { proved(black_box(sheet.as_ptr()), sheet.len(), count) },
         || by_hand(black_box(&sheet), count),
     );
-    assert_eq!(answer, u64::from(count), "each wait lasts");
-    let each = |d: Duration| d.as_secs_f64() * 1e9 / f64::from(count);
-    println!(
-        "{count} waits of a tick, {name}: proved {:.1} ns each, by hand {:.1} ns, ratio {:.2}",
-        each(best[0]),
-        each(best[1]),
-        ratio(best)
-    );
+    assert_eq!(lasting, u64::from(count), "each wait lasts");
 }
 
 fn main() {
