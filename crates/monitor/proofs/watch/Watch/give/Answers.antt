@@ -1,7 +1,6 @@
-use Rattle.std.proofs.Common.{◌≡◌, Option, Some, None, refl, sym, ap, ◌∙◌}
-use Rattle.std.specs.Prelude.{Result, Ok, Err}
-use Rattle.source.specs.declared.Item.{Item}
-use Rattle.monitor.specs.Following.{ended, stopped_by_source, stopped_by_item}
+use Rattle.std.proofs.Common.{refl, sym, ap, ◌∙◌}
+use Rattle.std.specs.Prelude.{Ok}
+use Rattle.monitor.specs.Following.{stopped_by_source, stopped_by_item}
 use Rattle.monitor.proofs.Following.{gives_end, gives_fault, gives_on, gives_last, gives_refused}
 use Rattle.monitor.proofs.watch.Watch.give.Goals as goal
 
