@@ -4,19 +4,24 @@
 usage: python3 tools/compare.py MODEL COUNT SEED [--try]     at the top of the repository
 
 MODEL is a folder with model.py, gen.py and watch.py: networks and their sheets, random networks and
-traces, and what `watch` is to write of two files. The watch is crates/vectors/out/vectors, which `rt run`
-in crates/vectors makes, or with --try what `rt try` runs there, before anything is proved. Prints each
+traces, and what `watch` is to write of two files. The watch is crates/vectors/out/vectors, which takes many
+cases at once, and for the first of them crates/watch/out/watch too, over files; `rt run` in their folders
+makes both. With --try it is what `rt try` runs in crates/vectors, before anything is proved. Prints each
 case on which the two sides disagree, and how many of each outcome there were; fails if any disagree.
 """
 
 import collections
 import multiprocessing
+import pathlib
 import random
 import subprocess
 import sys
+import tempfile
 
 # So many cases a process.
 SHARE = 500
+# So many cases are given to the program over files too.
+OVER_FILES = 200
 # The most bytes of a file.
 LONGEST = 16384
 # Values that a number of a sheet or a recording may be changed to, beside those near its own.
@@ -121,6 +126,16 @@ def told(cases, trying):
     return texts
 
 
+def written(sheet, recording):
+    """What the program writes of the two files; where there are no bytes, there is no file."""
+    program = pathlib.Path("crates/watch/out/watch").resolve()
+    with tempfile.TemporaryDirectory() as folder:
+        for name, data in (("network.bin", sheet), ("recording.bin", recording)):
+            if data:
+                pathlib.Path(folder, name).write_bytes(data)
+        return subprocess.run([program], cwd=folder, capture_output=True, text=True, check=True).stdout
+
+
 def cases_of(seed, count):
     """Random cases, and what the model writes of each."""
     rng = random.Random(seed)
@@ -140,14 +155,21 @@ def main(count, seed, trying):
     with multiprocessing.Pool() as pool:
         cases = [one for part in pool.starmap(cases_of, shares) for one in part]
     counts, wrong = collections.Counter(), 0
+
+    def compared(sheet, recording, expected, text):
+        if text != expected:
+            print(f"disagree: {hexed(sheet)} {hexed(recording)}\n  model {expected!r}\n  watch {text!r}")
+        return text != expected
+
     step = 20 * SHARE
     for at in range(0, len(cases), step):
         part = cases[at : at + step]
         for (sheet, recording, expected), text in zip(part, told([c[:2] for c in part], trying)):
             counts[outcome(expected)] += 1
-            if text != expected:
-                wrong += 1
-                print(f"disagree: {hexed(sheet)} {hexed(recording)}\n  model {expected!r}\n  watch {text!r}")
+            wrong += compared(sheet, recording, expected, text)
+    if not trying:
+        for sheet, recording, expected in cases[:OVER_FILES]:
+            wrong += compared(sheet, recording, expected, written(sheet, recording))
     for name, n in sorted(counts.items()):
         print(f"{n:8} {name}")
     print(f"{len(cases)} cases, {wrong} disagreements")

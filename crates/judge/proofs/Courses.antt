@@ -131,19 +131,13 @@ pub gave_stopped : (r : Report) (stop : Stop RecordingFault) → Gave (stopped r
 gave_stopped r (why.Source fault) = refl
 gave_stopped r (why.Item fault) = refl
 
--- the follow of a recording from its first byte
-pub from_the_first : (N : Model) (d : WholeTicks) (bytes recording : List ℕ) (at : ℕ) → bytes ≡ recording → at ≡ 0 → (w : Watch) (s : Slip) (bs bs' : List WholeTicks) (ls ls' : List ℕ) (y : Answer) → Follows whole_had whole_admits whole_reach N d w s bs ls (items_at bytes at) (meets_end (ending_at bytes at)) y bs' ls' → Follows whole_had whole_admits whole_reach N d w s bs ls (items_at recording 0) (meets_end (ending_at recording 0)) y bs' ls'
-from_the_first N d bytes recording at same first w s bs bs' ls ls' y f =
-    let P : List ℕ → ℕ → Type 0 = λ xs k. Follows whole_had whole_admits whole_reach N d w s bs ls (items_at xs k) (meets_end (ending_at xs k)) y bs' ls' in
-    subst (P recording) first (subst (λ xs. P xs at) same f)
-
 pub stop_from_the_first : (bytes recording : List ℕ) (at : ℕ) → bytes ≡ recording → at ≡ 0 → (r : Report) (stop : Stop RecordingFault) (fault : Fault) → fault ≡ fault_of stop → IsFault (ending_at bytes at) stop → Some (refusal_of fault) ≡ beside (ending_at recording 0) (stopped r stop)
 stop_from_the_first bytes recording at same first r stop fault is carries =
     let P : List ℕ → ℕ → Type 0 = λ xs k. IsFault (ending_at xs k) stop in
     ap (λ f. Some (refusal_of f)) is ∙ stop_beside (ending_at recording 0) r stop (subst (P recording) first (subst (λ xs. P xs at) same carries))
 
 -- a course with this report is the watch that its line tells of
-pub course_watched : VerdictsByRuns whole_had whole_admits whole_reach → FitsByCause whole_had whole_admits whole_reach → (network : Network) (d : WholeTicks) (recording line : List ℕ) (x : Course (model_of network) d recording) (r : Report) → Gave x.answer r → line ≡ row_of (report_text r (beside (ending_at recording 0) x.answer)) → WatchedBy (model_of network) d recording line
+course_watched : VerdictsByRuns whole_had whole_admits whole_reach → FitsByCause whole_had whole_admits whole_reach → (network : Network) (d : WholeTicks) (recording line : List ℕ) (x : Course (model_of network) d recording) (r : Report) → Gave x.answer r → line ≡ row_of (report_text r (beside (ending_at recording 0) x.answer)) → WatchedBy (model_of network) d recording line
 course_watched verdicts fits_by network d recording line x r gave is =
     let N = model_of network in
     let rows = opened_rows whole_had whole_admits whole_reach N d x.bounds x.locations 40 x.watch x.slip x.opened_bounds x.opened_locations x.opens in
@@ -160,3 +154,24 @@ course_watched verdicts fits_by network d recording line x r gave is =
       fits = (λ f. no.0 (fit.0 f), λ o. fit.1 (no.1 o));
       by_runs = λ o. verdicts network d (trace_of N d recording x) (stage_of N d recording x) (shift_of N d recording x) (fit.1 (no.1 o));
     }
+
+-- so is a watch that was opened for forty entries, and followed a recording that stood at its first byte
+module _ (verdicts : VerdictsByRuns whole_had whole_admits whole_reach) (fits_by : FitsByCause whole_had whole_admits whole_reach) (network : Network) (d : WholeTicks) (recording bytes : List ℕ) (at : ℕ) (same : bytes ≡ recording) (first : at ≡ 0) where
+  pub opened_watched : (bs bs₁ bs₂ : List WholeTicks) (ls ls₁ ls₂ : List ℕ) (w : Watch) (s : Slip) → Opens whole_had whole_admits whole_reach (model_of network) d bs ls 40 (Ok (w, s)) bs₁ ls₁ → (y : Answer) → Follows whole_had whole_admits whole_reach (model_of network) d w s bs₁ ls₁ (items_at bytes at) (meets_end (ending_at bytes at)) y bs₂ ls₂ → (r : Report) → Gave y r → (line : List ℕ) → line ≡ row_of (report_text r (beside (ending_at recording 0) y)) → WatchedBy (model_of network) d recording line
+  opened_watched bs bs₁ bs₂ ls ls₁ ls₂ w s o y f r gave line is =
+      let P : List ℕ → ℕ → Type 0 = λ xs k. Follows whole_had whole_admits whole_reach (model_of network) d w s bs₁ ls₁ (items_at xs k) (meets_end (ending_at xs k)) y bs₂ ls₂ in
+      course_watched verdicts fits_by network d recording line
+      (record {
+        bounds = bs;
+        locations = ls;
+        watch = w;
+        slip = s;
+        opened_bounds = bs₁;
+        opened_locations = ls₁;
+        opens = o;
+        answer = y;
+        left_bounds = bs₂;
+        left_locations = ls₂;
+        follows = subst (P recording) first (subst (λ xs. P xs at) same f);
+      })
+      r gave is

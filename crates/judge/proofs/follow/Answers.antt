@@ -3,7 +3,7 @@ use Rattle.network.specs.Networks.{model_of}
 use Rattle.report.specs.Line.{report_text, row_of}
 use Rattle.monitor.specs.Following.{stopped}
 use Rattle.time.specs.Whole.{whole_had, whole_admits, whole_reach}
-use Rattle.judge.proofs.Courses.{rows_enough, opened_rows, no_open_refused, no_follow_refused, stop_from_the_first, from_the_first, gave_stopped, course_watched}
+use Rattle.judge.proofs.Courses.{rows_enough, opened_rows, no_open_refused, no_follow_refused, stop_from_the_first, gave_stopped, opened_watched}
 use Rattle.judge.proofs.follow.Goals as goal
 
 pub returns-in_err-watch : goal.returns-in_err-watch
@@ -13,49 +13,23 @@ returns-in_err-watch c =
 
 pub returns-in-Ended : goal.returns-in-Ended
 returns-in-Ended c =
-    let N = model_of c.args.network.now in
     let new = c.new-recording in
     record {
       watched = λ d.
-          course_watched c.open.ensures.verdicts_by_runs c.open.ensures.fits_by_cause c.args.network.now d c.args.recording.now _
-          (record {
-            bounds = _;
-            locations = _;
-            watch = c.in_ok-watch.watch;
-            slip = c.in_ok-watch.slip;
-            opened_bounds = c.open.new.bounds;
-            opened_locations = c.open.new.locations;
-            opens = c.in_ok-watch.ensures.opens d;
-            answer = _;
-            left_bounds = c.follow.new.bounds;
-            left_locations = c.follow.new.locations;
-            follows = from_the_first N d new.result.bytes.now c.args.recording.now new.result.at new.ensures.same_bytes new.ensures.at_the_first_byte _ _ _ _ _ _ _ (c.in-Ended.ensures.follows d);
-          })
-          c.in-Ended.report refl refl;
+          opened_watched c.open.ensures.verdicts_by_runs c.open.ensures.fits_by_cause c.args.network.now d c.args.recording.now new.result.bytes.now new.result.at new.ensures.same_bytes new.ensures.at_the_first_byte _ _ _ _ _ _ _ _ (c.in_ok-watch.ensures.opens d) _ (c.in-Ended.ensures.follows d)
+          c.in-Ended.report refl _ refl;
     }
 
 pub returns-in-Stopped : goal.returns-in-Stopped
 returns-in-Stopped c =
-    let N = model_of c.args.network.now in
     let new = c.new-recording in
+    let report = c.in-Stopped.report in
+    let stop = c.in-Stopped.stop in
     record {
       watched = λ d.
-          course_watched c.open.ensures.verdicts_by_runs c.open.ensures.fits_by_cause c.args.network.now d c.args.recording.now _
-          (record {
-            bounds = _;
-            locations = _;
-            watch = c.in_ok-watch.watch;
-            slip = c.in_ok-watch.slip;
-            opened_bounds = c.open.new.bounds;
-            opened_locations = c.open.new.locations;
-            opens = c.in_ok-watch.ensures.opens d;
-            answer = stopped c.in-Stopped.report c.in-Stopped.stop;
-            left_bounds = c.follow.new.bounds;
-            left_locations = c.follow.new.locations;
-            follows = from_the_first N d new.result.bytes.now c.args.recording.now new.result.at new.ensures.same_bytes new.ensures.at_the_first_byte _ _ _ _ _ _ _ (c.in-Stopped.ensures.follows d);
-          })
-          c.in-Stopped.report (gave_stopped c.in-Stopped.report c.in-Stopped.stop)
-          (ap (λ x. row_of (report_text c.in-Stopped.report x)) (stop_from_the_first new.result.bytes.now c.args.recording.now new.result.at new.ensures.same_bytes new.ensures.at_the_first_byte c.in-Stopped.report c.in-Stopped.stop c.into.result c.into.ensures c.in-Stopped.ensures.whole_fault));
+          opened_watched c.open.ensures.verdicts_by_runs c.open.ensures.fits_by_cause c.args.network.now d c.args.recording.now new.result.bytes.now new.result.at new.ensures.same_bytes new.ensures.at_the_first_byte _ _ _ _ _ _ _ _ (c.in_ok-watch.ensures.opens d) (stopped report stop) (c.in-Stopped.ensures.follows d)
+          report (gave_stopped report stop) _
+          (ap (λ x. row_of (report_text report x)) (stop_from_the_first new.result.bytes.now c.args.recording.now new.result.at new.ensures.same_bytes new.ensures.at_the_first_byte report stop c.into.result c.into.ensures c.in-Stopped.ensures.whole_fault));
     }
 
 pub returns-in-Refused : goal.returns-in-Refused
