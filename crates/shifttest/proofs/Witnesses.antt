@@ -30,7 +30,7 @@ use Rattle.monitor.specs.Rows.{HasRows, Belongs, estimate_of, room}
 use Rattle.monitor.specs.Waiting.{overruns}
 use Rattle.monitor.specs.Calls.{Visible, Zeros, Opens, open_refused, opens, waits, see_breaks, see_of_no_channel, sees}
 use Rattle.monitor.specs.Following.{Takes, at_end, at_fault, ends, refuses, follows}
-use Rattle.monitor.specs.Shifts.{standing, broken_off, Shift, shift_opens, shift_ends, shift_closes}
+use Rattle.monitor.specs.Shifts.{standing, broken_off, Shift, Fits, shift_opens, shift_ends, shift_closes}
 use Rattle.monitor.proofs.Places.{fits_by_cause}
 use Rattle.shifttest.specs.Witnesses.{Shows}
 
@@ -152,12 +152,12 @@ module _ {B : Type 0} (had : ℕ → Type 0) (admits : B → ℕ → ℤ → Typ
         stands = record { shift = standing_now; fits = tt };
         passes = record { shift = shift_closes standing_now (closing w) refl; fits = tt };
         overruns = λ one. shift_ends standing_now (Wait 0) (overrunning w) bs' ls' (waits_in_vain had admits reach L N d entries bs' ls' own z one);
-        fails = λ more still k o. (let h : Shift had admits reach N d (See k ∷ []) (broken_off (breaking_see w Output)) = shift_ends standing_now (See k) (breaking_see w Output) bs' ls' (sees_none had admits reach L N d entries bs' ls' own z still more k o) in record { shift = h; fits = (fits_by_cause had admits reach network d _ _ h).1 (λ r e c. cc) });
+        fails = λ more still k o. record { shift = broken more still k o; fits = broken_fits more still k o };
         refuses = sees_no_channel had admits reach L N d entries bs' ls' own z;
-        to_the_end = record { follow = follows rows (at_end refl (closing w) refl refl (refl, refl)); taken = refl; leaves = refl };
-        to_a_fault = record { follow = follows rows (at_fault refl refl (refl, refl)); taken = refl; leaves = refl };
-        to_a_refusal = λ k past is ending. record { follow = follows rows (refuses (See k) w unspent (Channel 0) (sees_no_channel had admits reach L N d entries bs' ls' own z k past) refl); taken = refl; leaves = refl };
-        to_a_break = λ more still k o is ending. record { follow = follows rows (ends (See k) (breaking_see w Output) (sees_none had admits reach L N d entries bs' ls' own z still more k o) refl); taken = refl; leaves = refl };
+        to_the_end = record { follow = follows rows (at_end refl (closing w) refl refl (refl, refl)); taken = refl; leaves = refl; fits = tt };
+        to_a_fault = record { follow = follows rows (at_fault refl refl (refl, refl)); taken = refl; leaves = refl; fits = tt };
+        to_a_refusal = λ k past is ending. record { follow = follows rows (refuses (See k) w unspent (Channel 0) (sees_no_channel had admits reach L N d entries bs' ls' own z k past) refl); taken = refl; leaves = refl; fits = tt };
+        to_a_break = λ more still k o is ending. record { follow = follows rows (ends (See k) (breaking_see w Output) (sees_none had admits reach L N d entries bs' ls' own z still more k o) refl); taken = refl; leaves = refl; fits = (broken_fits more still k o).1 };
       }
     where
       N : Model
@@ -168,6 +168,12 @@ module _ {B : Type 0} (had : ℕ → Type 0) (admits : B → ℕ → ℤ → Typ
 
       standing_now : Shift had admits reach (model_of network) d [] (standing w unspent bs' ls')
       standing_now = shift_opens bs ls entries w unspent bs' ls' opening
+
+      broken : 2 ≤ entries → (model_of network).edges ≡ [] → (k : ℕ) → channel_at (model_of network) k ≡ Output → Shift had admits reach (model_of network) d (See k ∷ []) (broken_off (breaking_see (opened entries) Output))
+      broken more still k o = shift_ends standing_now (See k) (breaking_see w Output) bs' ls' (sees_none had admits reach L N d entries bs' ls' own z still more k o)
+
+      broken_fits : (more : 2 ≤ entries) (still : (model_of network).edges ≡ []) (k : ℕ) (o : channel_at (model_of network) k ≡ Output) → Fits had admits reach (model_of network) d (broken more still k o)
+      broken_fits more still k o = (fits_by_cause had admits reach network d _ _ (broken more still k o)).1 (λ r e c. cc)
 
   pub opening_shows : (r : Result (Watch × Slip) WatchFault) → Opens had admits reach (model_of network) d bs ls entries r bs' ls' → HasRows (model_of network) entries bs ls → Shows had admits reach (model_of network) d entries bs' ls'
   opening_shows r (open_refused h e u) rows = absurd (h rows)

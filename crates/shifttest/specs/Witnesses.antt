@@ -9,7 +9,7 @@ use Rattle.monitor.specs.declared.fault.WatchFault.TheVariants.{Channel}
 use Rattle.monitor.specs.declared.watch.Reply.TheVariants.{Refused}
 use Rattle.monitor.specs.Replies.{opened, unspent, closing, overrunning, breaking_see}
 use Rattle.monitor.specs.Following.{Answer, ended, stopped_by_source, stopped_by_item, Takes, stopping, Follows}
-use Rattle.monitor.specs.Shifts.{Stage, standing, closed, broken_off, followed, follow_leaves, Shift, Fits}
+use Rattle.monitor.specs.Shifts.{Stage, standing, closed, broken_off, followed, follow_leaves, Shift, Fits, FitsFollow}
 
 module _ {B : Type 0} (had : ℕ → Type 0) (admits : B → ℕ → ℤ → Type 0) (reach : B → ℕ) (N : Model) (d : B) where
   -- a shift whose growth fits
@@ -19,11 +19,12 @@ module _ {B : Type 0} (had : ℕ → Type 0) (admits : B → ℕ → ℤ → Typ
 
   -- of a watch that was opened for so many entries, over the rows that its opening left
   module _ (entries : ℕ) (bs : List B) (ls : List ℕ) where
-    -- a follow of these items that leaves the shift there, with the trace t
+    -- a follow of these items that leaves the shift there, with the trace t, and adds no entry without a place
     pub record FollowedTo (is : List Item) (ending : Bool) (y : Answer) (t : List Item) (stage : Stage B) : Type 0 where
       pub follow : Follows had admits reach N d (opened entries) unspent bs ls is ending y bs ls
       pub taken : followed had admits reach N d follow ≡ t
       pub leaves : follow_leaves had admits reach N d follow ≡ stage
+      pub fits : FitsFollow had admits reach N d follow
 
     pub record Shows : Type 0 where
       pub stands : Fitting [] (standing (opened entries) unspent bs ls)
