@@ -1,5 +1,5 @@
 -- A wait and a see have one reply.
-use Rattle.std.proofs.Common.{◌≡◌, ℕ, ◌+◌, ◌-◌, ◌<◌, ◌≤◌, ◌⊎◌, List, ℤ, sym, refl, ap, ◌∙◌, subst, ⊎_elim, zero, suc, arith}
+use Rattle.std.proofs.Common.{◌≡◌, ℕ, ◌+◌, ◌<◌, ◌≤◌, ◌⊎◌, List, ℤ, sym, ap, ◌∙◌, subst, ⊎_elim, arith}
 use Rattle.model.specs.Model.{Model}
 use Rattle.runs.specs.Kinds.{kind}
 use Rattle.runs.specs.Moves.{channel_at}
@@ -10,14 +10,13 @@ use Rattle.estimate.specs.Rows.{entries_of}
 use Rattle.report.specs.declared.Report.{Report}
 use Rattle.monitor.specs.declared.fault.WatchFault.{WatchFault}
 use Rattle.monitor.specs.declared.fault.WatchFault.TheVariants.{Channel, Range}
-use Rattle.monitor.specs.declared.growing.Waited.{Waited}
 use Rattle.monitor.specs.declared.watch.Watch.{Watch}
 use Rattle.monitor.specs.declared.watch.Slip.{Slip}
 use Rattle.monitor.specs.declared.watch.Reply.{Reply}
 use Rattle.monitor.specs.declared.watch.Reply.TheVariants.{Going, Ended, Refused}
 use Rattle.monitor.specs.Replies.{most, seen, wait_reply, overrunning, breaking_see}
-use Rattle.monitor.specs.Rows.{HasRows, Belongs, estimate_of, room}
-use Rattle.monitor.specs.Calls.{Visible, WaitTaken, Waits, wait_without_rows, wait_out_of_range, waits, SeeTaken, see_overruns, see_breaks, see_goes_on, Sees, see_without_rows, see_of_no_channel, see_out_of_range, sees, AlikeRows, WaitDetermined, SeeDetermined}
+use Rattle.monitor.specs.Rows.{estimate_of, room}
+use Rattle.monitor.specs.Calls.{wait_without_rows, wait_out_of_range, waits, SeeTaken, see_overruns, see_breaks, see_goes_on, Sees, see_without_rows, see_of_no_channel, see_out_of_range, sees, AlikeRows, WaitDetermined, SeeDetermined}
 use Rattle.monitor.proofs.OneReply.{waited_one}
 
 module _ {B : Type 0} (had : ℕ → Type 0) (admits : B → ℕ → ℤ → Type 0) (reach : B → ℕ) (N : Model) (w : Watch) (s : Slip) where

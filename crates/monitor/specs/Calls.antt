@@ -1,5 +1,5 @@
 -- What each call promises: its reply, and what the rows then hold. `d` stands for a bound that a row lacks.
-use Rattle.std.specs.Prelude.{◌≡◌, ℕ, ◌+◌, ◌-◌, ◌<◌, ◌≤◌, ◌⊎◌, ◌↔◌, List, ℤ, pos, Result, Ok, Err}
+use Rattle.std.specs.Prelude.{◌≡◌, ℕ, ◌+◌, ◌<◌, ◌≤◌, ◌⊎◌, ◌↔◌, List, ℤ, pos, Result, Ok, Err}
 use Rattle.time.specs.Grains.{Grain}
 use Rattle.model.specs.declared.ChannelKind.TheVariants.{Hidden}
 use Rattle.model.specs.Model.{Model}

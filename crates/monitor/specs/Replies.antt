@@ -1,11 +1,10 @@
 -- What calls answer: each case by its number and its values, and watches and reports by name.
-use Rattle.std.specs.Prelude.{◌≡◌, ℕ, ◌+◌, ◌-◌, Bool, true, false, cond}
+use Rattle.std.specs.Prelude.{◌≡◌, ℕ, ◌+◌, ◌-◌, Bool, false, cond}
 use Rattle.model.specs.declared.ChannelKind.{ChannelKind}
 use Rattle.model.specs.declared.ChannelKind.TheVariants.{Input, Output, Hidden}
 use Rattle.report.specs.declared.Verdict.{Verdict}
 use Rattle.report.specs.declared.Verdict.TheVariants.{Pass, Fail, Inconclusive}
 use Rattle.report.specs.declared.Cause.TheVariants.{Closed, BrokenSee, BrokenWait, Overrun}
-use Rattle.report.specs.declared.Document.{Document}
 use Rattle.report.specs.declared.Document.TheVariants.{Watch as WatchWord}
 use Rattle.report.specs.declared.Refusal.{Refusal}
 use Rattle.report.specs.declared.Report.{Report}
@@ -16,7 +15,7 @@ use Rattle.monitor.specs.declared.growing.Waited.TheVariants as outcome
 use Rattle.monitor.specs.declared.watch.Watch.{Watch}
 use Rattle.monitor.specs.declared.watch.Slip.{Slip}
 use Rattle.monitor.specs.declared.watch.Reply.{Reply}
-use Rattle.monitor.specs.declared.watch.Reply.TheVariants.{Going, Ended, Refused}
+use Rattle.monitor.specs.declared.watch.Reply.TheVariants.{Going, Ended}
 
 -- the most ticks that a watch may reach, and the most items that it may take
 abbrev pub most : ℕ
