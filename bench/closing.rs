@@ -1,4 +1,4 @@
-//! The closing of a matrix of bounds, written by hand: the same loop over the same bounds.
+//! The closings of a matrix of bounds, written by hand: the same loops over the same bounds.
 
 pub trait Bound: Copy {
     fn at_most(c: i64) -> Self;
@@ -105,6 +105,42 @@ pub fn close<T: Bound>(part: &mut [T], side: usize) -> bool {
         }
     }
     true
+}
+
+fn relax_column<T: Bound>(part: &mut [T], side: usize, k: usize, b: usize) -> bool {
+    let floor = T::less_than(-1_000_000_000_000);
+    let r = part[k * side + b];
+    for i in 0..side {
+        let sum = part[i * side + k].sum(r);
+        if !sum.covers(floor) {
+            return false;
+        }
+        part[i * side + b] = part[i * side + b].tighter(sum);
+    }
+    true
+}
+
+fn close_over<T: Bound>(part: &mut [T], side: usize, b: usize) -> bool {
+    part[b * side + b].admits_zero() && relax(part, side, b) && zeros(part, side)
+}
+
+/// Closes a matrix that is closed but for column b.
+pub fn close_column<T: Bound>(part: &mut [T], side: usize, b: usize) -> bool {
+    for k in 0..side {
+        if k != b && !relax_column(part, side, k, b) {
+            return false;
+        }
+    }
+    close_over(part, side, b)
+}
+
+/// Tightens one bound of a closed matrix, and closes it again.
+pub fn cut<T: Bound>(part: &mut [T], side: usize, i: usize, j: usize, x: T) -> bool {
+    if x.covers(part[i * side + j]) {
+        return true;
+    }
+    part[i * side + j] = x;
+    relax_column(part, side, i, j) && close_over(part, side, j)
 }
 
 fn spread_out<T: Bound>(part: &mut [T], side: usize) {

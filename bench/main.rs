@@ -1,9 +1,12 @@
-//! Times the proved code beside hand-written Rust: the sheet reader on the largest sound sheet, and in both kinds of time the
-//! closing of matrices of three sizes, growths, and waits. A line has what was done, and the microseconds of each.
+//! Times the proved code beside hand-written Rust: the sheet reader on the largest sound sheet, and in both kinds of time
+//! closings of matrices of three sizes, growths, sees, waits and follows. A line has what was done, and the microseconds of
+//! each.
 mod closing;
 mod growth;
 mod reader;
+mod rounds;
 mod sheets;
+mod watch;
 
 use sheets::Extra;
 use std::hint::black_box;
@@ -12,6 +15,7 @@ use std::time::Duration;
 type Closings = unsafe extern "C" fn(usize, u32) -> u64;
 type Growths = unsafe extern "C" fn(*const u8, usize, u64, u32) -> u64;
 type Waits = unsafe extern "C" fn(*const u8, usize, u32) -> u64;
+type Follows = unsafe extern "C" fn(*const u8, usize, *const u8, usize, u32) -> u64;
 
 unsafe extern "C" {
     fn read_sheet_rounds(bytes: *const u8, len: usize, rounds: u32) -> u64;
@@ -19,8 +23,12 @@ unsafe extern "C" {
     fn close_split_rounds(side: usize, rounds: u32) -> u64;
     fn grow_whole_rounds(sheet: *const u8, len: usize, w: u64, rounds: u32) -> u64;
     fn grow_split_rounds(sheet: *const u8, len: usize, w: u64, rounds: u32) -> u64;
+    fn see_whole_rounds(sheet: *const u8, len: usize, w: u64, rounds: u32) -> u64;
+    fn see_split_rounds(sheet: *const u8, len: usize, w: u64, rounds: u32) -> u64;
     fn wait_whole_rounds(sheet: *const u8, len: usize, waits: u32) -> u64;
     fn wait_split_rounds(sheet: *const u8, len: usize, waits: u32) -> u64;
+    fn follow_whole_rounds(sheet: *const u8, len: usize, recording: *const u8, long: usize, rounds: u32) -> u64;
+    fn follow_split_rounds(sheet: *const u8, len: usize, recording: *const u8, long: usize, rounds: u32) -> u64;
     fn clock_gettime(clock: i32, at: *mut [i64; 2]) -> i32;
 }
 
@@ -84,30 +92,33 @@ fn closings(name: &str, proved: Closings, by_hand: fn(usize, u32) -> u64) {
     }
 }
 
-/// So many growths that they take about a hundredth of a second, each with so many entries.
-fn growth_in(name: &str, sheet: &[u8], w: u64, proved: Growths, by_hand: fn(&[u8], u64, u32) -> u64) {
+/// So many growths or sees that they take about a hundredth of a second, each with so many entries.
+fn entries_in(name: &str, sheet: &[u8], w: u64, proved: Growths, by_hand: fn(&[u8], u64, u32) -> u64) {
     let start = now();
     let entries = by_hand(sheet, w, 1);
     let rounds = (0.01 / (now() - start).as_secs_f64()).clamp(1.0, 10_000.0) as u32;
     let all = race(
-        &format!("growth, {name}, {entries} entries"),
+        &format!("{name}, {entries} entries"),
         rounds,
         || unsafe { proved(black_box(sheet.as_ptr()), sheet.len(), w, rounds) },
         || by_hand(black_box(sheet), w, rounds),
     );
-    assert!(entries > 0, "the growth has room");
-    assert_eq!(all, entries * u64::from(rounds), "each growth takes the same entries");
+    assert!(entries > 0, "there is room");
+    assert_eq!(all, entries * u64::from(rounds), "each takes the same entries");
 }
 
 fn growth(name: &str, sheet: &[u8], w: u64) {
-    growth_in(&format!("whole ticks, {name}"), sheet, w, grow_whole_rounds, growth::grow_rounds::<closing::Whole>);
-    growth_in(&format!("split ticks, {name}"), sheet, w, grow_split_rounds, growth::grow_rounds::<closing::Split>);
+    entries_in(&format!("growth, whole ticks, {name}"), sheet, w, grow_whole_rounds, rounds::grows::<closing::Whole>);
+    entries_in(&format!("growth, split ticks, {name}"), sheet, w, grow_split_rounds, rounds::grows::<closing::Split>);
 }
 
 fn growths() {
     let full = sheets::full();
     for w in [0, 1, 3, 7, 11, 1000] {
         growth(&format!("60 edges, to tick {w}"), &full, w);
+    }
+    for clocks in [1, 2, 4, 6, 8] {
+        growth(&format!("{clocks} clocks, 36 edges"), &sheets::with_clocks(clocks), 1000);
     }
     for (name, extra) in [("idle", Extra::Idle), ("alone", Extra::Alone), ("in pairs", Extra::Pairs)] {
         for count in [8, 32, 128] {
@@ -116,23 +127,83 @@ fn growths() {
     }
 }
 
-fn waits(name: &str, proved: Waits, by_hand: fn(&[u8], u32) -> u64) {
-    let sheet = sheets::bell();
-    let count = 100_000;
+fn see(name: &str, sheet: &[u8], w: u64) {
+    entries_in(&format!("see, whole ticks, {name}"), sheet, w, see_whole_rounds, rounds::sees::<closing::Whole>);
+    entries_in(&format!("see, split ticks, {name}"), sheet, w, see_split_rounds, rounds::sees::<closing::Split>);
+}
+
+fn sees() {
+    see("bell", &sheets::bell(), 0);
+    for w in [0, 1, 3, 7, 1000] {
+        see(&format!("8 clocks, at tick {w}"), &sheets::seen(8), w);
+    }
+    for clocks in [1, 2, 4, 6] {
+        see(&format!("{clocks} clocks, at tick 1000"), &sheets::seen(clocks), 1000);
+    }
+}
+
+fn waits_in(name: &str, sheet: &[u8], count: u32, proved: Waits, by_hand: fn(&[u8], u32) -> u64) {
     let lasting = race(
         &format!("wait of a tick, {name}, the mean of {count}"),
         count,
         || unsafe { proved(black_box(sheet.as_ptr()), sheet.len(), count) },
-        || by_hand(black_box(&sheet), count),
+        || by_hand(black_box(sheet), count),
     );
     assert_eq!(lasting, u64::from(count), "each wait lasts");
 }
 
+fn waits() {
+    let bell = sheets::bell();
+    let grid = sheets::with_clocks(8);
+    waits_in("bell, whole ticks", &bell, 100_000, wait_whole_rounds, rounds::waits::<closing::Whole>);
+    waits_in("bell, split ticks", &bell, 100_000, wait_split_rounds, rounds::waits::<closing::Split>);
+    waits_in("8 clocks, whole ticks", &grid, 100, wait_whole_rounds, rounds::waits::<closing::Whole>);
+    waits_in("8 clocks, split ticks", &grid, 100, wait_split_rounds, rounds::waits::<closing::Split>);
+}
+
+fn follows_in(name: &str, recording: &[u8], items: u64, proved: Follows, by_hand: fn(&[u8], &[u8], u32) -> u64) {
+    let sheet = sheets::bell();
+    let taken = race(
+        &format!("item of a follow, bell, {name}, the mean of {items}"),
+        items as u32,
+        || unsafe { proved(black_box(sheet.as_ptr()), sheet.len(), black_box(recording.as_ptr()), recording.len(), 1) },
+        || by_hand(black_box(&sheet), black_box(recording), 1),
+    );
+    assert_eq!(taken, items, "it is followed to its end");
+}
+
+fn follows() {
+    let recording = sheets::rings(10_000);
+    follows_in("whole ticks", &recording, 40_000, follow_whole_rounds, rounds::follows::<closing::Whole>);
+    follows_in("split ticks", &recording, 40_000, follow_split_rounds, rounds::follows::<closing::Split>);
+}
+
+/// The time of one replay, by the clock on the wall.
+fn replay_in(name: &str, sheet: &[u8], recording: &[u8], proved: Follows) {
+    let start = std::time::Instant::now();
+    let items = unsafe { proved(black_box(sheet.as_ptr()), sheet.len(), black_box(recording.as_ptr()), recording.len(), 1) };
+    eprintln!("replay of {name}: {items} items, {:.3} s", start.elapsed().as_secs_f64());
+}
+
+/// A million ticks in waits of one tick each, and a million ticks of bell's rings.
+fn replays() {
+    let idle = sheets::idle(1_000_000);
+    let rings = sheets::rings(1_000_000 / 11);
+    for (kind, proved) in [("whole", follow_whole_rounds as Follows), ("split", follow_split_rounds)] {
+        replay_in(&format!("a million waits of a tick, bell, {kind} ticks"), &sheets::bell(), &idle, proved);
+        replay_in(&format!("rings over a million ticks, bell, {kind} ticks"), &sheets::bell(), &rings, proved);
+    }
+}
+
 fn main() {
+    if std::env::args().nth(1).as_deref() == Some("replay") {
+        return replays();
+    }
     reading();
     closings("whole ticks", close_whole_rounds, closing::rounds::<closing::Whole>);
     closings("split ticks", close_split_rounds, closing::rounds::<closing::Split>);
     growths();
-    waits("whole ticks", wait_whole_rounds, growth::wait_rounds::<closing::Whole>);
-    waits("split ticks", wait_split_rounds, growth::wait_rounds::<closing::Split>);
+    sees();
+    waits();
+    follows();
 }

@@ -79,6 +79,8 @@ pub struct Network {
     pub processes: [Process; 8],
     pub edge_count: usize,
     pub edges: [Edge; 128],
+    /// by process and location, the numbers of the edges that leave it, one bit each
+    pub leaving: [[u128; 16]; 8],
 }
 
 impl Network {
@@ -86,18 +88,18 @@ impl Network {
         let location = Location::default();
         let process = Process { side: Side::Environment, count: 1, locations: [location; 16] };
         let edge = Edge { process: 0, from: 0, to: 0, label: Label::Alone, count: 0, conditions: [Condition::default(); 4], resets: 0 };
-        Network { clocks: 0, width: 0, channels: [Kind::Hidden; 32], count: 1, processes: [process; 8], edge_count: 0, edges: [edge; 128] }
+        Network { clocks: 0, width: 0, channels: [Kind::Hidden; 32], count: 1, processes: [process; 8], edge_count: 0, edges: [edge; 128], leaving: [[0; 16]; 8] }
     }
 }
 
-struct Cursor<'a> {
-    bytes: &'a [u8],
-    at: usize,
+pub struct Cursor<'a> {
+    pub bytes: &'a [u8],
+    pub at: usize,
 }
 
 impl Cursor<'_> {
     #[inline]
-    fn number(&mut self) -> Result<u32, Fault> {
+    pub fn number(&mut self) -> Result<u32, Fault> {
         match self.bytes.get(self.at) {
             Some(&b) if b < 0x80 => {
                 self.at += 1;
@@ -224,7 +226,9 @@ pub fn read_sheet(bytes: &[u8], place: &mut Network) -> Result<(), Fault> {
     }
     network.edge_count = cursor.field(0, 128)? as usize;
     for i in 0..network.edge_count {
-        network.edges[i] = cursor.edge(&network)?;
+        let edge = cursor.edge(&network)?;
+        network.leaving[usize::from(edge.process)][usize::from(edge.from)] |= 1 << i;
+        network.edges[i] = edge;
     }
     if cursor.at != bytes.len() {
         return Err(Fault::LeftOver(cursor.at));

@@ -2,6 +2,8 @@
 
 const MARK: u32 = 1_000_000;
 const ALONE: u32 = 0;
+const INPUT: u32 = 0;
+const HIDDEN: u32 = 2;
 
 fn put(sheet: &mut Vec<u8>, mut v: u32) {
     while v >= 128 {
@@ -61,9 +63,10 @@ struct Edge {
     reads: [(u32, u32); 2],
 }
 
-/// A network with one hidden channel and two processes, whose locations have a limit each.
+/// A network with one channel and two processes, whose locations have a limit each.
 struct Sheet {
     clocks: u32,
+    channel: u32,
     limits: [Vec<(u32, u32)>; 2],
     edges: Vec<Edge>,
 }
@@ -71,7 +74,7 @@ struct Sheet {
 impl Sheet {
     fn bytes(&self) -> Vec<u8> {
         let mut s = Vec::new();
-        for v in [1, self.clocks, 1, 2, 2] {
+        for v in [1, self.clocks, 1, self.channel, 2] {
             put(&mut s, v);
         }
         for (side, limits) in self.limits.iter().enumerate() {
@@ -111,7 +114,7 @@ fn chains(clocks: u32, long: u32) -> Sheet {
             edges.extend([e, Edge { label: 1 + process, ..e }]);
         }
     }
-    Sheet { clocks, limits: [limits(0), limits(5)], edges }
+    Sheet { clocks, channel: HIDDEN, limits: [limits(0), limits(5)], edges }
 }
 
 /// A growth of eight clocks that needs all of 256 places: the start, and each pair of locations but the two last, of which the
@@ -155,4 +158,37 @@ pub fn with_edges(extra: Extra, count: usize) -> Vec<u8> {
         s.edges.push(Edge { process, from: at, to: at, label, reads });
     }
     s.bytes()
+}
+
+/// Two chains of ten locations, with so many clocks: a growth has 100 entries behind the start.
+pub fn with_clocks(clocks: u32) -> Vec<u8> {
+    chains(clocks, 10).bytes()
+}
+
+/// Two chains of ten locations, each entered alone, and an input that is seen at each pair of them.
+pub fn seen(clocks: u32) -> Vec<u8> {
+    let mut s = chains(clocks, 10);
+    s.channel = INPUT;
+    s.edges.retain(|e| e.label == ALONE);
+    for at in 0..10 {
+        for process in 0..2 {
+            let reads = [(at % clocks + 1, at), ((at + 1) % clocks + 1, at)];
+            s.edges.push(Edge { process, from: at, to: at, label: 1 + process, reads });
+        }
+    }
+    s.bytes()
+}
+
+/// Bell rung so many times, as a recording: seen, 4 ticks, seen again, 7 ticks.
+pub fn rings(times: usize) -> Vec<u8> {
+    let mut recording = [1, 0, 0, 4, 1, 1, 0, 7].repeat(times);
+    recording.push(2);
+    recording
+}
+
+/// So many waits of one tick, as a recording.
+pub fn idle(waits: usize) -> Vec<u8> {
+    let mut recording = [0, 1].repeat(waits);
+    recording.push(2);
+    recording
 }

@@ -4,7 +4,9 @@ ghost use Rattle.std.specs.Prelude.{IfSome};
 ghost use Rattle.estimate.specs.Stores.{HasRoom};
 
 use estimate::Store;
+use monitor::{Followed, Reply, Slip, Watch, open};
 use network::{Network, read_sheet};
+use source::Recording;
 use steps::side_of;
 use time::{SplitTicks, TimeKind, WholeTicks};
 use zones::{Ticks, close};
@@ -84,20 +86,37 @@ fn store_over<'a, T: TimeKind>(
     })
 }
 
-// The start grown to `w` ticks: how many entries that takes, none where an entry finds no place.
-fn growth<T: TimeKind>(store: &mut Store<'_, T>, w: Ticks) -> u64
+// What is done from the start: it is grown, or channel 0 is seen.
+#[derive(Clone, Copy, Debug, PartialEq, Eq)]
+enum Work {
+    Growth,
+    See,
+}
+
+// Does it at `w` ticks: how many entries there then are, none where an entry finds no place.
+fn work_once<T: TimeKind>(store: &mut Store<'_, T>, work: Work, w: Ticks) -> u64
     requires room { HasRoom store.old 256 }
     ensures room { HasRoom store.new 256 }
 {
     store.begin(ENTRIES);
-    match store.grow(false, w, 1, ENTRIES) {
+    let used = match work {
+        Work::Growth => store.grow(false, w, 1, ENTRIES),
+        Work::See => store.see(0, w, 1, ENTRIES),
+    };
+    match used {
         Some(used) => used as u64,
         None => 0,
     }
 }
 
-// Reads a sheet and grows its start so many times, and adds up the entries.
-fn grow_rounds<T: TimeKind>(bounds: &mut [T], sheet: &[u8], w: u64, rounds: u32) -> u64 {
+// Reads a sheet and does the work from its start so many times, and adds up the entries.
+fn work_rounds<T: TimeKind>(
+    bounds: &mut [T],
+    work: Work,
+    sheet: &[u8],
+    w: u64,
+    rounds: u32,
+) -> u64 {
     let mut network = Network::smallest();
     if read_sheet(sheet, &mut network).is_err() {
         return 0;
@@ -112,7 +131,7 @@ fn grow_rounds<T: TimeKind>(bounds: &mut [T], sheet: &[u8], w: u64, rounds: u32)
     let mut entries = 0u64;
     // It repeats, and counts nothing.
     for _ in 0..rounds {
-        entries = entries.wrapping_add(growth(&mut store, w));
+        entries = entries.wrapping_add(work_once(&mut store, work, w));
     }
     entries
 }
@@ -120,44 +139,84 @@ fn grow_rounds<T: TimeKind>(bounds: &mut [T], sheet: &[u8], w: u64, rounds: u32)
 // The rows have room for the largest side.
 #[unsafe(no_mangle)]
 pub extern "C" fn grow_whole_rounds(sheet: &[u8], w: u64, rounds: u32) -> u64 {
-    grow_rounds(&mut [WholeTicks::none(); 25_700], sheet, w, rounds)
+    work_rounds(
+        &mut [WholeTicks::none(); 25_700],
+        Work::Growth,
+        sheet,
+        w,
+        rounds,
+    )
 }
 
 #[unsafe(no_mangle)]
 pub extern "C" fn grow_split_rounds(sheet: &[u8], w: u64, rounds: u32) -> u64 {
-    grow_rounds(&mut [SplitTicks::none(); 25_700], sheet, w, rounds)
+    work_rounds(
+        &mut [SplitTicks::none(); 25_700],
+        Work::Growth,
+        sheet,
+        w,
+        rounds,
+    )
 }
 
-// Whether the estimate of one entry lasts to `w` ticks, as a watch asks at a wait.
-fn lasts<T: TimeKind>(store: &mut Store<'_, T>, w: u64) -> bool
-    requires room { HasRoom store.old 256 }
-    ensures room { HasRoom store.new 256 }
-{
-    let Some(ticks) = Ticks::new(w) else {
-        return false;
-    };
-    match store.grow(false, ticks, 1, ENTRIES) {
-        Some(used) => store.latest(1, used) >= w,
-        None => false,
+#[unsafe(no_mangle)]
+pub extern "C" fn see_whole_rounds(sheet: &[u8], w: u64, rounds: u32) -> u64 {
+    work_rounds(
+        &mut [WholeTicks::none(); 25_700],
+        Work::See,
+        sheet,
+        w,
+        rounds,
+    )
+}
+
+#[unsafe(no_mangle)]
+pub extern "C" fn see_split_rounds(sheet: &[u8], w: u64, rounds: u32) -> u64 {
+    work_rounds(
+        &mut [SplitTicks::none(); 25_700],
+        Work::See,
+        sheet,
+        w,
+        rounds,
+    )
+}
+
+// So many waits of a tick, and then the watch is closed, if it has not ended: the items that it took.
+fn waited<T: TimeKind>(
+    watch: Watch,
+    slip: Slip,
+    network: &Network,
+    bounds: &mut [T],
+    locations: &mut [u8],
+    waits: u32,
+) -> u64 {
+    let mut watch = watch;
+    let mut slip = slip;
+    // It repeats, and counts nothing.
+    for _ in 0..waits {
+        match watch.wait(slip, network, bounds, locations, 1) {
+            Reply::Going(w, s) => {
+                watch = w;
+                slip = s;
+            }
+            Reply::Ended(report) => return report.count,
+            Reply::Refused(w, s, _) => return w.close(s).count,
+        }
     }
+    watch.close(slip).count
 }
 
-// Reads a sheet and waits one tick so many times from its start, with no see between, and counts the waits that last.
+// Reads a sheet and opens a watch over its network, which waits so many times: the items.
 fn wait_rounds<T: TimeKind>(bounds: &mut [T], sheet: &[u8], waits: u32) -> u64 {
     let mut network = Network::smallest();
     if read_sheet(sheet, &mut network).is_err() {
         return 0;
     }
     let mut locations = [0; 2048];
-    let Some(mut store) = store_over(bounds, &mut locations, &network) else {
-        return 0;
-    };
-    store.begin(ENTRIES);
-    let mut lasting = 0u64;
-    for w in 1..=waits {
-        lasting = lasting.wrapping_add(u64::from(lasts(&mut store, u64::from(w))));
+    match open(&network, bounds, &mut locations, ENTRIES) {
+        Ok((watch, slip)) => waited(watch, slip, &network, bounds, &mut locations, waits),
+        Err(_) => 0,
     }
-    lasting
 }
 
 #[unsafe(no_mangle)]
@@ -168,4 +227,51 @@ pub extern "C" fn wait_whole_rounds(sheet: &[u8], waits: u32) -> u64 {
 #[unsafe(no_mangle)]
 pub extern "C" fn wait_split_rounds(sheet: &[u8], waits: u32) -> u64 {
     wait_rounds(&mut [SplitTicks::none(); 25_700], sheet, waits)
+}
+
+// Opens a watch and gives it the recording: the items that it took.
+fn followed<T: TimeKind>(
+    network: &Network,
+    bounds: &mut [T],
+    locations: &mut [u8],
+    recording: &[u8],
+) -> u64 {
+    let Ok((watch, slip)) = open(network, bounds, locations, ENTRIES) else {
+        return 0;
+    };
+    match watch.follow(slip, network, bounds, locations, Recording::new(recording)) {
+        Followed::Ended(report) => report.count,
+        Followed::Stopped(report, _) => report.count,
+        Followed::Refused(watch, slip, _, _) => watch.close(slip).count,
+    }
+}
+
+// Reads a sheet and follows the recording over its network so many times, and adds up the items.
+fn follow_rounds<T: TimeKind>(
+    bounds: &mut [T],
+    sheet: &[u8],
+    recording: &[u8],
+    rounds: u32,
+) -> u64 {
+    let mut network = Network::smallest();
+    if read_sheet(sheet, &mut network).is_err() {
+        return 0;
+    }
+    let mut locations = [0; 2048];
+    let mut items = 0u64;
+    // It repeats, and counts nothing.
+    for _ in 0..rounds {
+        items = items.wrapping_add(followed(&network, bounds, &mut locations, recording));
+    }
+    items
+}
+
+#[unsafe(no_mangle)]
+pub extern "C" fn follow_whole_rounds(sheet: &[u8], recording: &[u8], rounds: u32) -> u64 {
+    follow_rounds(&mut [WholeTicks::none(); 25_700], sheet, recording, rounds)
+}
+
+#[unsafe(no_mangle)]
+pub extern "C" fn follow_split_rounds(sheet: &[u8], recording: &[u8], rounds: u32) -> u64 {
+    follow_rounds(&mut [SplitTicks::none(); 25_700], sheet, recording, rounds)
 }
