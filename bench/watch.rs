@@ -1,4 +1,5 @@
 //! A watch, written by hand: the same calls over the same rows, given the items of a recording, too.
+#![allow(dead_code)]
 
 use crate::closing::Bound;
 use crate::growth::Store;
@@ -13,12 +14,13 @@ pub enum Verdict {
     Inconclusive,
 }
 
-/// The verdict, the cause, the items and the tick.
+/// The verdict, the number of the cause, the items and the tick.
 pub struct Report(pub Verdict, pub u8, pub u64, pub u64);
 
 pub enum Reply {
     Going,
     Ended(Report),
+    /// by the number of the rule
     Refused(u32),
 }
 
