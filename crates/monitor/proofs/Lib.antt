@@ -11,6 +11,7 @@ pub mod Steps
 pub mod Whole
 pub mod Decided
 pub mod Places
+pub mod Counting
 pub mod Able
 pub mod Known
 pub mod Ones

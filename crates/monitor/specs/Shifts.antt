@@ -202,3 +202,8 @@ module _ {B : Type 0} (had : ℕ → Type 0) (admits : B → ℕ → ℤ → Typ
   abbrev pub FitsByCause : Type 0
   FitsByCause =
       (network : Network) (d : B) (t : List Item) (stage : Stage B) (h : Shift had admits reach (model_of network) d t stage) → Fits had admits reach (model_of network) d h ↔ (NoOverrun stage)
+
+  -- what any shift reports counts the items of its trace, one at which it broke or overran too
+  abbrev pub CountsItems : Type 0
+  CountsItems =
+      (network : Network) (d : B) (t : List Item) (stage : Stage B) → Shift had admits reach (model_of network) d t stage → (r : Report) → Reports stage r → r.count ≡ length t

@@ -9,7 +9,7 @@ ghost use Rattle.monitor.specs.Rows.{HasRows};
 ghost use Rattle.monitor.specs.Replies.{most, overrunning, see_verdict};
 ghost use Rattle.monitor.specs.Calls.{Visible, Opens, Waits, WaitIn, Sees, SeeIn, Closes, WaitDetermined, SeeDetermined};
 ghost use Rattle.monitor.specs.Examples.{ExampleShifts};
-ghost use Rattle.monitor.specs.Shifts.{VerdictsByRuns, WordsDecide, FitsByCause};
+ghost use Rattle.monitor.specs.Shifts.{VerdictsByRuns, WordsDecide, FitsByCause, CountsItems};
 
 use crate::WatchFault;
 use crate::growing::{Waited, wait};
@@ -92,6 +92,7 @@ pub fn open<T: TimeKind>(
     ensures verdicts_by_runs { VerdictsByRuns T.had T.admits T.reach }
     ensures words_decide { WordsDecide T.had T.admits T.reach }
     ensures fits_by_cause { FitsByCause T.had T.admits T.reach }
+    ensures counts_items { CountsItems T.had T.admits T.reach }
 {
     if !has_rows(network, bounds, locations, entries) {
         return Err(WatchFault::Rows(0));
