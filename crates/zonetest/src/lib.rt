@@ -38,15 +38,14 @@ mod tests {
         below_four(&mut zone);
         zone.elapsed_at_most(Ticks::new(10)?);
         let w = Ticks::new(w)?;
-        Some(zone.close() && zone.seen().elapsed_at(w))
+        Some(zone.close_column(0) && zone.seen().elapsed_at(w))
     }
 
     // Whether time passes 3 before it reaches 4.
     fn passes_three<T: TimeKind>(part: &mut [T; 9]) -> bool {
         let mut zone = ZoneMut::over(part, 3);
         below_four(&mut zone);
-        zone.meet_conditions(&ABOVE_THREE);
-        zone.close()
+        zone.close() && zone.meet_conditions(&ABOVE_THREE)
     }
 
     #[test]
@@ -72,8 +71,8 @@ mod tests {
         let mut zone = ZoneMut::over(&mut part, 3);
         zone.start();
         zone.delay();
-        zone.elapsed_exactly(seven);
-        assert!(rt; zone.close());
+        assert!(rt; zone.close_column(0));
+        assert!(rt; zone.elapsed_exactly(seven));
         let whole = part;
         let before = Zone::over(&whole, 3);
         let mut zone = ZoneMut::over(&mut part, 3);
@@ -93,8 +92,8 @@ mod tests {
         let mut zone = ZoneMut::over(&mut part, 10);
         zone.start();
         zone.delay();
-        zone.elapsed_exactly(seven);
-        assert!(rt; zone.close());
+        assert!(rt; zone.close_column(0));
+        assert!(rt; zone.elapsed_exactly(seven));
         zone.reset(256);
         assert!(rt; zone.seen().last_elapsed() == Some(0));
         assert!(rt; zone.seen().elapsed_at(zero));
