@@ -23,9 +23,9 @@ fn with_rows<T: Bound>(sheet: &[u8], work: impl FnOnce(&Network, &mut [T], &mut 
 pub fn grows<T: Bound>(sheet: &[u8], w: u64, rounds: u32) -> u64 {
     with_rows::<T>(sheet, |network, bounds, locations| {
         let mut store = Store { bounds, locations, network };
+        store.begin();
         let mut entries = 0;
         for _ in 0..rounds {
-            store.begin();
             entries += black_box(&mut store).grow(false, w as i64, 1, ENTRIES).unwrap_or(0) as u64;
         }
         entries

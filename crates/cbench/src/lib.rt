@@ -17,7 +17,6 @@ use zones::{Ticks, close};
 pub extern "C" fn read_sheet_rounds(bytes: &[u8], rounds: u32) -> u64 {
     let mut place = Network::smallest();
     let mut edges = 0u64;
-    // It repeats, and counts nothing.
     for _ in 0..rounds {
         let _ = read_sheet(bytes, &mut place);
         edges = edges.wrapping_add(place.edges().len() as u64);
@@ -35,8 +34,8 @@ fn spread_out<T: TimeKind>(part: &mut [T], side: usize) {
     }
 }
 
-// Fills and closes a matrix of at most 10 clocks at the front of a row so many times, and counts how often it has points:
-// never where the row does not hold it, a number being all that C is answered.
+// Fills and closes a matrix of at most 10 clocks at the front of a row so many times, and counts how often it has points;
+// 0 where the row is too short: C gets a number and no fault.
 fn close_rounds<T: TimeKind>(row: &mut [T], side: usize, rounds: u32) -> u64 {
     if side > 10 {
         return 0;
@@ -45,7 +44,6 @@ fn close_rounds<T: TimeKind>(row: &mut [T], side: usize, rounds: u32) -> u64 {
         return 0;
     };
     let mut closed = 0u64;
-    // It repeats, and counts nothing.
     for _ in 0..rounds {
         spread_out(part, side);
         closed = closed.wrapping_add(u64::from(close(part, side)));
@@ -67,6 +65,9 @@ pub extern "C" fn close_split_rounds(side: usize, rounds: u32) -> u64 {
 // The most entries that a store has.
 const ENTRIES: usize = 256;
 
+// The bounds of so many entries of the most clocks, and of the work entry.
+const ROW: usize = 100 * (ENTRIES + 1);
+
 // The rows as a store of the most entries, with the work entry, where they have room for them.
 fn store_over<'a, T: TimeKind>(
     bounds: &'a mut [T],
@@ -86,7 +87,7 @@ fn store_over<'a, T: TimeKind>(
     })
 }
 
-// What is done from the start: it is grown, or channel 0 is seen.
+// What is done from the start: it is grown, or it is made anew, since a see takes its place, and channel 0 is seen.
 #[derive(Clone, Copy, Debug, PartialEq, Eq)]
 enum Work {
     Growth,
@@ -98,10 +99,12 @@ fn work_once<T: TimeKind>(store: &mut Store<'_, T>, work: Work, w: Ticks) -> u64
     requires room { HasRoom store.old 256 }
     ensures room { HasRoom store.new 256 }
 {
-    store.begin(ENTRIES);
     let used = match work {
         Work::Growth => store.grow(false, w, 1, ENTRIES),
-        Work::See => store.see(0, w, 1, ENTRIES),
+        Work::See => {
+            store.begin(ENTRIES);
+            store.see(0, w, 1, ENTRIES)
+        }
     };
     match used {
         Some(used) => used as u64,
@@ -128,19 +131,18 @@ fn work_rounds<T: TimeKind>(
     let Some(mut store) = store_over(bounds, &mut locations, &network) else {
         return 0;
     };
+    store.begin(ENTRIES);
     let mut entries = 0u64;
-    // It repeats, and counts nothing.
     for _ in 0..rounds {
         entries = entries.wrapping_add(work_once(&mut store, work, w));
     }
     entries
 }
 
-// The rows have room for the largest side.
 #[unsafe(no_mangle)]
 pub extern "C" fn grow_whole_rounds(sheet: &[u8], w: u64, rounds: u32) -> u64 {
     work_rounds(
-        &mut [WholeTicks::none(); 25_700],
+        &mut [WholeTicks::none(); ROW],
         Work::Growth,
         sheet,
         w,
@@ -151,7 +153,7 @@ pub extern "C" fn grow_whole_rounds(sheet: &[u8], w: u64, rounds: u32) -> u64 {
 #[unsafe(no_mangle)]
 pub extern "C" fn grow_split_rounds(sheet: &[u8], w: u64, rounds: u32) -> u64 {
     work_rounds(
-        &mut [SplitTicks::none(); 25_700],
+        &mut [SplitTicks::none(); ROW],
         Work::Growth,
         sheet,
         w,
@@ -161,24 +163,12 @@ pub extern "C" fn grow_split_rounds(sheet: &[u8], w: u64, rounds: u32) -> u64 {
 
 #[unsafe(no_mangle)]
 pub extern "C" fn see_whole_rounds(sheet: &[u8], w: u64, rounds: u32) -> u64 {
-    work_rounds(
-        &mut [WholeTicks::none(); 25_700],
-        Work::See,
-        sheet,
-        w,
-        rounds,
-    )
+    work_rounds(&mut [WholeTicks::none(); ROW], Work::See, sheet, w, rounds)
 }
 
 #[unsafe(no_mangle)]
 pub extern "C" fn see_split_rounds(sheet: &[u8], w: u64, rounds: u32) -> u64 {
-    work_rounds(
-        &mut [SplitTicks::none(); 25_700],
-        Work::See,
-        sheet,
-        w,
-        rounds,
-    )
+    work_rounds(&mut [SplitTicks::none(); ROW], Work::See, sheet, w, rounds)
 }
 
 // So many waits of a tick, and then the watch is closed, if it has not ended: the items that it took.
@@ -192,7 +182,6 @@ fn waited<T: TimeKind>(
 ) -> u64 {
     let mut watch = watch;
     let mut slip = slip;
-    // It repeats, and counts nothing.
     for _ in 0..waits {
         match watch.wait(slip, network, bounds, locations, 1) {
             Reply::Going(w, s) => {
@@ -221,12 +210,12 @@ fn wait_rounds<T: TimeKind>(bounds: &mut [T], sheet: &[u8], waits: u32) -> u64 {
 
 #[unsafe(no_mangle)]
 pub extern "C" fn wait_whole_rounds(sheet: &[u8], waits: u32) -> u64 {
-    wait_rounds(&mut [WholeTicks::none(); 25_700], sheet, waits)
+    wait_rounds(&mut [WholeTicks::none(); ROW], sheet, waits)
 }
 
 #[unsafe(no_mangle)]
 pub extern "C" fn wait_split_rounds(sheet: &[u8], waits: u32) -> u64 {
-    wait_rounds(&mut [SplitTicks::none(); 25_700], sheet, waits)
+    wait_rounds(&mut [SplitTicks::none(); ROW], sheet, waits)
 }
 
 // Opens a watch and gives it the recording: the items that it took.
@@ -259,7 +248,6 @@ fn follow_rounds<T: TimeKind>(
     }
     let mut locations = [0; 2048];
     let mut items = 0u64;
-    // It repeats, and counts nothing.
     for _ in 0..rounds {
         items = items.wrapping_add(followed(&network, bounds, &mut locations, recording));
     }
@@ -268,10 +256,10 @@ fn follow_rounds<T: TimeKind>(
 
 #[unsafe(no_mangle)]
 pub extern "C" fn follow_whole_rounds(sheet: &[u8], recording: &[u8], rounds: u32) -> u64 {
-    follow_rounds(&mut [WholeTicks::none(); 25_700], sheet, recording, rounds)
+    follow_rounds(&mut [WholeTicks::none(); ROW], sheet, recording, rounds)
 }
 
 #[unsafe(no_mangle)]
 pub extern "C" fn follow_split_rounds(sheet: &[u8], recording: &[u8], rounds: u32) -> u64 {
-    follow_rounds(&mut [SplitTicks::none(); 25_700], sheet, recording, rounds)
+    follow_rounds(&mut [SplitTicks::none(); ROW], sheet, recording, rounds)
 }
