@@ -182,7 +182,7 @@ fn follows() {
 fn replay_in(name: &str, sheet: &[u8], recording: &[u8], proved: Follows) {
     let start = std::time::Instant::now();
     let items = unsafe { proved(black_box(sheet.as_ptr()), sheet.len(), black_box(recording.as_ptr()), recording.len(), 1) };
-    eprintln!("replay of {name}: {items} items, {:.3} s", start.elapsed().as_secs_f64());
+    println!("replay of {name}: {items} items, {:.3} s", start.elapsed().as_secs_f64());
 }
 
 /// A million ticks in waits of one tick each, and a million ticks of bell's rings.
