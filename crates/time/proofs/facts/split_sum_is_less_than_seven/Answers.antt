@@ -13,6 +13,5 @@ pub returns : goal.returns
 returns c =
     let near-four = c.less_than.ensures.near (omega arith) in
     let near-three = c.at_most.ensures.near (omega arith) in
-    record {
-      less_than_seven = same_trans (c.sum.ensures.means (omega (arith, near-four, near-three))) (same_trans (sum_same (c.less_than.ensures.means (omega arith)) (c.at_most.ensures.means (omega arith))) seven);
-    }
+    let summed = same_trans (c.sum.ensures.means (omega (arith, near-four, near-three))) (sum_same (c.less_than.ensures.means (omega arith)) (c.at_most.ensures.means (omega arith))) in
+    record { less_than_seven = same_trans summed seven; of_the_sum = summed }
