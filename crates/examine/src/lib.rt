@@ -1,6 +1,6 @@
 #![tactic(auto)]
 
-ghost use Rattle.std.specs.Prelude.{◌≡◌, Result, length};
+ghost use Rattle.std.specs.Prelude.{◌≡◌};
 ghost use Rattle.examine.specs.Tallies.{capped, waits_in, sees_in, ticks_in};
 ghost use Rattle.examine.specs.Refusals.{Refuses};
 ghost use Rattle.examine.specs.Examining.{examined, examine_answer, RefusedLeaves};
@@ -14,7 +14,7 @@ use report::{Document, Refusal};
 use source::{Item, Recording, RecordingFault, TraceSource};
 use wire::ByteFault;
 
-// A file may have this many bytes.
+// A file has at most this many bytes.
 pub const LONGEST: usize = 16_384;
 
 // What a source holds: how many waits and sees, how many ticks they wait in all, and its ending.
@@ -56,7 +56,7 @@ impl From<Fault> for Refusal {
 
     fn from(fault: Fault) -> Refusal {
         let (document, (number, place)) = match fault {
-            // A number, as in the cases below.
+            // The numbers are those of docs/REFUSALS.md.
             Fault::TooLong => (Document::Program, (1, LONGEST)),
             Fault::Sheet(inner) => (Document::Sheet, sheet_case(inner)),
             Fault::Recording(inner) => (Document::Recording, recording_case(inner)),
@@ -70,8 +70,7 @@ impl From<Fault> for Refusal {
     }
 }
 
-// The number of the rule that is broken, and the place that a refusal names. Names for the numbers
-// would say no more than the faults beside them.
+// The number of the rule that is broken, and the place that a refusal names.
 fn sheet_case(fault: SheetFault) -> (u8, usize)
     ensures case { result ≡ sheet_case fault }
 {
@@ -84,7 +83,6 @@ fn sheet_case(fault: SheetFault) -> (u8, usize)
     }
 }
 
-// As `sheet_case`: names would say no more.
 fn recording_case(fault: RecordingFault) -> (u8, usize)
     ensures case { result ≡ recording_case fault }
 {
@@ -95,7 +93,6 @@ fn recording_case(fault: RecordingFault) -> (u8, usize)
     }
 }
 
-// As `sheet_case`: names would say no more.
 fn byte_case(fault: ByteFault) -> (u8, usize)
     ensures case { result ≡ byte_case fault }
 {

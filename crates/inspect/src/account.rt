@@ -83,7 +83,6 @@ pub(crate) fn recording(rt: &HostRuntime, tally: Tally<RecordingFault>) -> io::R
         "recording: waits {}, sees {}, ticks {}",
         tally.waits, tally.sees, tally.ticks
     )?;
-    // As in vectors: a call for both would take the writer and the ending, and be no shorter.
     match tally.ending {
         Ok(()) => println!(rt; "ends"),
         Err(fault) => write_line(&mut rt.stdout(), &refusal_line(Fault::from(fault).into())),

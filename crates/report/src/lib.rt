@@ -1,6 +1,6 @@
 #![tactic(auto)]
 
-ghost use Rattle.std.specs.Prelude.{◌≡◌, ℕ, ◌+◌, ◌<◌, ◌≤◌, ◌++◌, length, take, ◌≢◌, slice_index, Some, OnOk};
+ghost use Rattle.std.specs.Prelude.{◌≡◌, ℕ, ◌+◌, ◌<◌, ◌≤◌, ◌++◌, length, ◌≢◌, slice_index, Some, OnOk};
 ghost use Rattle.std.specs.Io.KnownBytes.{Appends};
 ghost use Rattle.arrayvec.specs.ArrayString.{array_string_len};
 ghost use Rattle.report.specs.Answers.{verdict_word, document_word, cause_number};
@@ -102,7 +102,7 @@ impl fmt::Display for Document {
 }
 
 impl Cause {
-    // By a rule of the project the number of an answer stands in one definition, which this match follows.
+    // The number of a cause is defined once, in the specs; this match follows it.
     fn number(self) -> u64
         ensures number { result ≡ cause_number self }
         ensures digit { result < 10 }
@@ -180,7 +180,7 @@ impl fmt::Display for Report {
     }
 }
 
-// The text of a refusal, and zeros behind it: fixed memory, and no String, by a rule of the project.
+// The text of a refusal, and zeros behind it: fixed memory, since the library takes none.
 pub fn refusal_line(refusal: Refusal) -> [u8; 128]
     ensures row { result ≡ row_of (refusal_text refusal) }
     ensures whole { length (refusal_text refusal) ≤ 128 }

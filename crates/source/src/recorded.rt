@@ -27,7 +27,7 @@ impl From<ByteFault> for RecordingFault {
     }
 }
 
-// The bytes of a recording, read where they are, and a position in them: the project's rule.
+// The bytes of a recording, and a position in them. They are read in place: nothing is copied.
 #[derive(Drop)]
 pub struct Recording<'a> {
     bytes: &'a [u8],
@@ -54,12 +54,11 @@ impl<'a> Recording<'a> {
         self.at
     }
 
-    // The item of the record at the position, none at the last one, and the place behind it, which there is
-    // for both.
+    // The record at the position: its item, or None for the end record; and the place behind it.
     fn record(&self) -> Result<(Option<Item>, usize), RecordingFault>
         ensures reads_the_record { record_answer result ≡ record_at self.now.bytes.now self.now.at }
     {
-        // Each record's own pattern, by a rule of the project. A `rest` begins where the whole without it ends.
+        // A pattern for each first byte. A `rest` begins where the whole without it ends.
         let whole = self.bytes.len();
         match &self.bytes[self.at..] {
             [0, rest @ ..] => {

@@ -1,6 +1,6 @@
 #![tactic(auto)]
 
-ghost use Rattle.std.specs.Prelude.{◌≡◌, ℕ, ◌+◌, ◌*◌, ◌^◌, ◌<◌, ◌≤◌, List, [], ◌∷◌, ◌++◌, length};
+ghost use Rattle.std.specs.Prelude.{◌≡◌};
 ghost use Rattle.wire.specs.Reading.{number_at};
 ghost use Rattle.wire.specs.Answers.{number_answer};
 ghost use Rattle.wire.specs.Inverse.{TakesWhatIsWritten, TakesOnlyWhatIsWritten};
