@@ -218,7 +218,8 @@ pub fn text(row: &[u8]) -> &[u8]
     &row[..text_length(row)]
 }
 
-// Writes the text of a row, which ends with its own line feed.
+// Writes the text of a row, which ends with its own line feed. Nothing is promised on Err, since std's `write_all`
+// promises nothing then.
 pub fn write_line<W: io::Write>(out: &mut W, row: &[u8]) -> io::Result<()>
     ensures written { OnOk result (Appends (W.contents out.old) (W.contents out.new) (text_of row.now)) }
 {
