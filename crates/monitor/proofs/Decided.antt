@@ -1,7 +1,8 @@
 -- What the runs leave a trace to report hangs on its timed word alone.
-use Rattle.std.proofs.Common.{◌≡◌, ℕ, ◌+◌, ◌<◌, ◌≤◌, Bool, true, false, cond, List, [], ◌∷◌, ◌++◌, ℤ, sym, refl, ap, ap₂, ◌∙◌, subst, subst₂, inl, inr, append_assoc, append-nil, le_trans, arith}
+use Rattle.std.proofs.Common.{◌≡◌, ℕ, ◌+◌, ◌<◌, ◌≤◌, Bool, cond, List, [], ◌∷◌, ◌++◌, ℤ, sym, refl, ap, ap₂, ◌∙◌, subst, subst₂, inl, inr, append_assoc, append-nil, le_trans, arith}
 use Rattle.source.specs.declared.Item.{Item}
 use Rattle.source.specs.declared.Item.TheVariants.{Wait, See}
+use Rattle.time.specs.Differences.{Tells}
 use Rattle.time.specs.Laws.{Laws}
 use Rattle.model.specs.Model.{Model}
 use Rattle.network.specs.Networks.{model_of}
@@ -17,8 +18,8 @@ use Rattle.runs.proofs.TraceWords.{sees_then, ticks_then, last_tick_then}
 use Rattle.runs.proofs.Fair.{Fair}
 use Rattle.runs.proofs.Sounds.{sound_fair}
 use Rattle.monitor.specs.Replies.{see_verdict}
-use Rattle.monitor.specs.Waiting.{Says}
 use Rattle.monitor.specs.Shifts.{Stage, closed, broken_off, Reports, Given, to_a_break, to_the_end, SameReport, WordsDecide}
+use Rattle.monitor.proofs.OneReply.{tells_one}
 use Rattle.monitor.proofs.Words.{next_tick, next_after, ticks_more, sees_more}
 use Rattle.monitor.proofs.Runs.{run_earlier, run_last, run_part}
 use Rattle.monitor.proofs.Steps.{BrokeBy, by_wait, by_see}
@@ -64,7 +65,7 @@ module _ (K : Kind) (N : Model) where
   data Told (S : List (ℕ × ℕ)) (T : ℕ) (r : Report) : Type 0 where
     told_pass : RunHas K N S T → r.verdict ≡ Pass → r.cause ≡ Closed → r.tick ≡ T → Told S T r
     told_see : (before : List (ℕ × ℕ)) (x : ℕ × ℕ) (behind : List (ℕ × ℕ)) → S ≡ before ++ (x ∷ behind) → Missed before x → r.verdict ≡ see_verdict (channel_at N x.1) → r.cause ≡ BrokenSee → r.tick ≡ x.0 → Told S T r
-    told_wait : (before behind : List (ℕ × ℕ)) (b : ℕ) (loosely : Bool) → S ≡ before ++ behind → Late before b → b ≤ next_tick behind T → Says loosely (LooseRunHas K N before b) → r.verdict ≡ cond loosely Fail Inconclusive → r.cause ≡ BrokenWait → r.tick ≡ b → Told S T r
+    told_wait : (before behind : List (ℕ × ℕ)) (b : ℕ) (loosely : Bool) → S ≡ before ++ behind → Late before b → b ≤ next_tick behind T → Tells loosely (LooseRunHas K N before b) → r.verdict ≡ cond loosely Fail Inconclusive → r.cause ≡ BrokenWait → r.tick ≡ b → Told S T r
 
   -- a run with more sees has those before, and what is missed is not had
   missed_not : (before : List (ℕ × ℕ)) (x : ℕ × ℕ) (m : List (ℕ × ℕ)) (T : ℕ) → Missed before x → ¬ (RunHas K N (before ++ (x ∷ m)) T)
@@ -78,12 +79,6 @@ module _ (K : Kind) (N : Model) where
         | inl p ↦ elim (le_or_lt c b) [ inl q ↦ omega arith | inr q ↦ absurd (x.never (y.earlier b x.after q)) ]
         | inr p ↦ absurd (y.never (x.earlier c y.after p))
       ]
-
-  says_one : (X : Type 0) (a b : Bool) → Says a X → Says b X → a ≡ b
-  says_one X true true p q = refl
-  says_one X true false p q = sym (q.1 (p.0 refl))
-  says_one X false true p q = p.1 (q.0 refl)
-  says_one X false false p q = refl
 
   module _ (F : Fair N) where
     -- nor is what is late
@@ -129,7 +124,7 @@ module _ (K : Kind) (N : Model) where
     told_same S T r q (told_wait before behind b l e y lb s v c k) (told_wait before' behind' b' l' e' y' lb' s' v' c' k') =
         let p = wait_wait T r q before behind before' behind' b b' y y' lb lb' (cuts before behind before' behind' (sym e ∙ e')) in
         let at : b ≡ b' = one_late before b b' y (subst (λ X. Late X b') (sym p) y') in
-        let loosely : l ≡ l' = says_one (LooseRunHas K N before b) l l' s (subst₂ (λ X j. Says l' (LooseRunHas K N X j)) (sym p) (sym at) s') in
+        let loosely : l ≡ l' = tells_one (LooseRunHas K N before b) (LooseRunHas K N before b) (λ x. x, λ x. x) l l' s (subst₂ (λ X j. Tells l' (LooseRunHas K N X j)) (sym p) (sym at) s') in
         record { verdict = v ∙ ap (λ (j : Bool). cond j Fail Inconclusive) loosely ∙ sym v'; cause = c ∙ sym c'; tick = k ∙ at ∙ sym k' }
 
     -- ---- so it is with the report of a shift that is given a trace

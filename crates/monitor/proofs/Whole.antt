@@ -1,5 +1,5 @@
 -- Whole shifts: where a shift stands whose growth fits is as the runs say.
-use Rattle.std.proofs.Common.{◌≡◌, ℕ, ◌+◌, Bool, true, false, cond, ◌⊎◌, ◌↔◌, List, [], ◌∷◌, ◌++◌, ℤ, sym, refl, ap, ◌∙◌, subst, subst₂, inl, inr, append_assoc, append-nil}
+use Rattle.std.proofs.Common.{◌≡◌, ℕ, ◌+◌, Bool, true, false, cond, T, ◌⊎◌, ◌↔◌, List, [], ◌∷◌, ◌++◌, ℤ, sym, refl, ap, ◌∙◌, subst, subst₂, inl, inr, append_assoc, append-nil}
 use Rattle.source.specs.declared.Item.{Item}
 use Rattle.source.specs.declared.Item.TheVariants.{Wait}
 use Rattle.time.specs.Laws.{Laws}
@@ -71,9 +71,13 @@ module _ {B : Type 0} {had : ℕ → Type 0} {admits : B → ℕ → ℤ → Typ
 
 -- ---- what a break says
 
-fail_loosely : (loosely : Bool) → cond loosely Fail Inconclusive ≡ Fail → loosely ≡ true
-fail_loosely true e = refl
+fail_loosely : (loosely : Bool) → cond loosely Fail Inconclusive ≡ Fail → T loosely
+fail_loosely true e = tt
 fail_loosely false e = cc
+
+loosely_fails : (loosely : Bool) → T loosely → cond loosely Fail Inconclusive ≡ Fail
+loosely_fails true t = refl
+loosely_fails false t = absurd t
 
 wait_no_pass : (loosely : Bool) → ¬ (cond loosely Fail Inconclusive ≡ Pass)
 wait_no_pass true e = cc
@@ -104,10 +108,10 @@ module _ (K : Kind) (N : Model) where
   broken_not F t i r (by_see j e h x v c k) y = x (subst (λ j. HasTrace K N (t ++ (j ∷ []))) e y)
 
   broken_fails : (t : List Item) (i : Item) (r : Report) → BrokeBy K N t i r → (r.verdict ≡ Fail) ↔ (Blames K N t i)
-  broken_fails t i r (by_wait n b l e h x lb s v c k) = (λ f. subst (Blames K N t) (sym e) (b, x, s.0 (fail_loosely l (sym v ∙ f))), λ y. back (subst (Blames K N t) e y))
+  broken_fails t i r (by_wait n b l e h x lb s v c k) = (λ f. subst (Blames K N t) (sym e) (b, x, s.yes (fail_loosely l (sym v ∙ f))), λ y. back (subst (Blames K N t) e y))
     where
       back : Blames K N t (Wait n) → r.verdict ≡ Fail
-      back y = v ∙ ap (λ (m : Bool). cond m Fail Inconclusive) (s.1 (subst (LooselyTo K N t) (one_break K N t y.0 b y.1 x) y.2))
+      back y = v ∙ loosely_fails l (s.no (subst (LooselyTo K N t) (one_break K N t y.0 b y.1 x) y.2))
   broken_fails t i r (by_see j e h x v c k) =
       (λ f. subst (Blames K N t) (sym e) (see_fail (channel_at N j) (sym v ∙ f)), λ y. (let o : channel_at N j ≡ Output = subst (Blames K N t) e y in v ∙ ap see_verdict o))
 

@@ -39,6 +39,7 @@ module _ {B : Type 0} (had : ℕ → Type 0) (admits : B → ℕ → ℤ → Typ
     pub places : (entries_of had admits N d bs ls 0 1).place 0 ≡ home N
     pub points : (g : ℕ) (v : ℕ → ℤ) → Grain had g → In (kind B had admits) N ((entries_of had admits N d bs ls 0 1).zone 0) g v ↔ ((v 0 ≡ pos 0) × ((i : ℕ) → i < side N → v i ≡ pos 0))
 
+  -- refused exactly where the rows do not do, and then nothing changes; else the rows hold the start
   pub data Opens (bs : List B) (ls : List ℕ) (entries : ℕ) (r : Result (Watch × Slip) WatchFault) (bs' : List B) (ls' : List ℕ) : Type 0 where
     open_refused : ¬ (HasRows N entries bs ls) → r ≡ Err (Rows 0) → Unchanged bs ls bs' ls' → Opens bs ls entries r bs' ls'
     opens : HasRows N entries bs ls → r ≡ Ok (opened entries, unspent) → Zeros bs' ls' → Belongs had admits reach N d (opened entries) bs' ls' → Aside N entries 0 bs ls bs' ls' → Opens bs ls entries r bs' ls'
@@ -53,6 +54,7 @@ module _ {B : Type 0} (had : ℕ → Type 0) (admits : B → ℕ → ℤ → Typ
       pub reply : r ≡ wait_reply w s ticks comes_to
       pub belongs : comes_to ≡ Reached → Belongs had admits reach N d (waited w ticks) bs' ls'
 
+    -- refused in this order, with nothing changed; else taken, and on the watch's own rows as WaitTaken says
     pub data Waits (ticks : ℕ) (r : Reply) (bs' : List B) (ls' : List ℕ) : Type 0 where
       wait_without_rows : ¬ (HasRows N w.entries bs ls) → r ≡ Refused w s (Rows w.items) → Unchanged bs ls bs' ls' → Waits ticks r bs' ls'
       wait_out_of_range : HasRows N w.entries bs ls → (most < w.tick + ticks) ⊎ (most < w.items + 1) → r ≡ Refused w s (Range w.items) → Unchanged bs ls bs' ls' → Waits ticks r bs' ls'
@@ -64,23 +66,27 @@ module _ {B : Type 0} (had : ℕ → Type 0) (admits : B → ℕ → ℤ → Typ
       see_breaks : (F : Entries (kind B had admits) N) → SeenFrom (kind B had admits) N k w.since (estimate_of had admits reach N d w bs ls) (room w) F → F.count ≡ 0 → r ≡ Ended (breaking_see w (channel_at N k)) → Aside N w.entries w.estimate bs ls bs' ls' → SeeTaken k r bs' ls'
       see_goes_on : (count : ℕ) → 1 ≤ count → (F : Entries (kind B had admits) N) → SeenFrom (kind B had admits) N k w.since (estimate_of had admits reach N d w bs ls) (room w) F → Alike (kind B had admits) N F (entries_of had admits N d bs' ls' 0 count) → r ≡ Going (seen w count) s → Belongs had admits reach N d (seen w count) bs' ls' → SeeTaken k r bs' ls'
 
+    -- refused in this order, with nothing changed; else taken, and on the watch's own rows as SeeTaken says
     pub data Sees (k : ℕ) (r : Reply) (bs' : List B) (ls' : List ℕ) : Type 0 where
       see_without_rows : ¬ (HasRows N w.entries bs ls) → r ≡ Refused w s (Rows w.items) → Unchanged bs ls bs' ls' → Sees k r bs' ls'
       see_of_no_channel : HasRows N w.entries bs ls → ¬ (Visible N k) → r ≡ Refused w s (Channel w.items) → Unchanged bs ls bs' ls' → Sees k r bs' ls'
       see_out_of_range : HasRows N w.entries bs ls → Visible N k → most < w.items + 1 → r ≡ Refused w s (Range w.items) → Unchanged bs ls bs' ls' → Sees k r bs' ls'
       sees : HasRows N w.entries bs ls → Visible N k → w.items + 1 ≤ most → Aside N w.entries 0 bs ls bs' ls' → (Belongs had admits reach N d w bs ls → SeeTaken k r bs' ls') → Sees k r bs' ls'
 
--- ---- the same of a store
+-- ---- a wait and a see that are not refused, of a store
 
 module _ {B : Type 0} (had : ℕ → Type 0) (admits : B → ℕ → ℤ → Type 0) (reach : B → ℕ) where
+  -- on the rows of a store that are the watch's own, as WaitTaken says
   abbrev pub WaitIn : Watch → Slip → ℕ → Store B → Reply → Store B → Type 0
   WaitIn w s ticks a r b = (d : B) → Belongs had admits reach (network_in a) d w a.bounds.now a.locations.now → WaitTaken had admits reach (network_in a) d w s a.bounds.now a.locations.now ticks r b.bounds.now b.locations.now
 
+  -- on the rows of a store that are the watch's own, as SeeTaken says
   abbrev pub SeeIn : Watch → Slip → ℕ → Store B → Reply → Store B → Type 0
   SeeIn w s k a r b = (d : B) → Belongs had admits reach (network_in a) d w a.bounds.now a.locations.now → SeeTaken had admits reach (network_in a) d w s a.bounds.now a.locations.now k r b.bounds.now b.locations.now
 
 -- ---- close
 
+-- the report of a close
 abbrev pub Closes : Watch → Report → Type 0
 Closes w r = r ≡ closing w
 

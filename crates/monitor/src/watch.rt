@@ -28,8 +28,9 @@ const MOST: u64 = 1_000_000_000_000;
 const MOST_ENTRIES: usize = 256;
 
 // A watch that is open: how many entries its rows may hold, how many its estimate has, the tick that
-// it has reached and those of them since the last see, and the items that it has taken. Plain numbers,
-// so that the rows stay the caller's; neither copied nor cloned, so that a call takes the one there is.
+// it has reached, how many ticks have passed since the last see, and how many items it has taken. Plain
+// numbers, so that the rows stay the caller's; neither copied nor cloned, so that a call takes the one
+// there is.
 #[derive(Drop)]
 pub struct Watch {
     pub(crate) entries: usize,
