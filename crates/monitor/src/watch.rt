@@ -115,12 +115,11 @@ pub fn open<T: TimeKind>(
 }
 
 // So many ticks more, if a watch may reach them.
-fn later(tick: u64, ticks: u32) -> Option<u64>
-    ensures later { IfSome result (λ t. (t ≡ tick + ticks) × (t ≤ most)) }
+fn later(tick: u64, ticks: u32) -> Option<Ticks>
+    ensures later { IfSome result (λ t. (t.count ≡ tick + ticks) × (t.count ≤ most)) }
     ensures none_only_above_the_most { IfNone result (most < tick + ticks) }
 {
-    let tick = tick.checked_add(u64::from(ticks))?;
-    if tick <= MOST { Some(tick) } else { None }
+    Ticks::new(tick.checked_add(u64::from(ticks))?)
 }
 
 // Whether a see of the channel is one of an input or an output, and then its number as edges have it.
@@ -180,10 +179,7 @@ impl Watch {
         ensures left_alone { LeftAlone self.entries self.estimate store.old store.new }
         ensures same_store { SameStore store.old store.new }
     {
-        let Some(since) = later(self.since, ticks) else {
-            return self.overrun(slip);
-        };
-        let Some(w) = Ticks::new(since) else {
+        let Some(w) = later(self.since, ticks) else {
             return self.overrun(slip);
         };
         if self.estimate > self.entries {
@@ -195,7 +191,7 @@ impl Watch {
                     entries: self.entries,
                     estimate: self.estimate,
                     tick: self.tick + u64::from(ticks),
-                    since,
+                    since: w.count(),
                     items: self.items + 1,
                 },
                 slip,
