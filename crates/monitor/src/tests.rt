@@ -95,20 +95,29 @@ fn refused(rt: &impl Abort, reply: Reply, fault: WatchFault) -> (Watch, Slip) {
     }
 }
 
+// A watch for two entries on these rows, after a wait of 5 ticks.
+fn after_a_wait(
+    rt: &impl Abort,
+    network: &Network,
+    bounds: &mut [WholeTicks],
+    locations: &mut [u8],
+) -> (Watch, Slip) {
+    let Ok((watch, slip)) = open(network, bounds, locations, 2) else {
+        panic!(rt; "it does not open")
+    };
+    going(rt, watch.wait(slip, network, bounds, locations, 5))
+}
+
 #[test]
-fn a_refused_call_changes_nothing(rt: HostRuntime) {
+fn a_call_over_short_rows_changes_nothing(rt: HostRuntime) {
     let network = network_of(&rt, HIDDEN);
     let mut rows = Rows::new();
-    let Ok((watch, slip)) = open(
+    let (watch, slip) = after_a_wait(
+        &rt,
         &network,
         &mut rows.bounds[..12],
         &mut rows.locations[..16],
-        2,
-    ) else {
-        panic!(rt; "it does not open")
-    };
-    let reply = watch.wait(slip, &network, &mut rows.bounds, &mut rows.locations, 5);
-    let (watch, slip) = going(&rt, reply);
+    );
     let before = rows;
     let reply = watch.wait(
         slip,
@@ -135,36 +144,61 @@ fn a_refused_call_changes_nothing(rt: HostRuntime) {
         1,
     );
     let (watch, slip) = refused(&rt, reply, WatchFault::Rows(1));
-    // A hidden channel, none, and one whose lowest byte alone is a channel.
-    let reply = watch.see(slip, &network, &mut rows.bounds, &mut rows.locations, 0);
-    let (watch, slip) = refused(&rt, reply, WatchFault::Channel(1));
-    let reply = watch.see(slip, &network, &mut rows.bounds, &mut rows.locations, 1);
-    let (watch, slip) = refused(&rt, reply, WatchFault::Channel(1));
-    let reply = watch.see(slip, &network, &mut rows.bounds, &mut rows.locations, 256);
-    let (watch, slip) = refused(&rt, reply, WatchFault::Channel(1));
     assert!(rt; rows == before);
     let report = watch.close(slip);
     assert!(rt; report.count == 1 && report.tick == 5);
 }
 
-// The most ticks are 232 of the longest waits and 3,567,587,560 more.
 #[test]
-fn no_watch_goes_past_the_most_ticks(rt: HostRuntime) {
-    let network = Network::smallest();
+fn a_see_of_no_channel_changes_nothing(rt: HostRuntime) {
+    let network = network_of(&rt, HIDDEN);
     let mut rows = Rows::new();
-    let Ok((mut watch, mut slip)) = open(&network, &mut rows.bounds, &mut rows.locations, 2) else {
+    let (mut watch, mut slip) = after_a_wait(
+        &rt,
+        &network,
+        &mut rows.bounds[..12],
+        &mut rows.locations[..16],
+    );
+    let before = rows;
+    // A hidden channel, none, and one whose lowest byte alone is a channel.
+    for channel in [0, 1, 256] {
+        let reply = watch.see(
+            slip,
+            &network,
+            &mut rows.bounds,
+            &mut rows.locations,
+            channel,
+        );
+        (watch, slip) = refused(&rt, reply, WatchFault::Channel(1));
+    }
+    assert!(rt; rows == before);
+    let report = watch.close(slip);
+    assert!(rt; report.count == 1 && report.tick == 5);
+}
+
+// A watch after 232 of the longest waits; the most ticks are 3,567,587,560 more.
+fn after_long_waits(rt: &impl Abort, network: &Network, rows: &mut Rows) -> (Watch, Slip) {
+    let Ok((mut watch, mut slip)) = open(network, &mut rows.bounds, &mut rows.locations, 2) else {
         panic!(rt; "it does not open")
     };
     for _ in 0..232 {
         let reply = watch.wait(
             slip,
-            &network,
+            network,
             &mut rows.bounds,
             &mut rows.locations,
             u32::MAX,
         );
-        (watch, slip) = going(&rt, reply);
+        (watch, slip) = going(rt, reply);
     }
+    (watch, slip)
+}
+
+#[test]
+fn no_watch_goes_past_the_most_ticks(rt: HostRuntime) {
+    let network = Network::smallest();
+    let mut rows = Rows::new();
+    let (watch, slip) = after_long_waits(&rt, &network, &mut rows);
     let before = rows;
     let reply = watch.wait(
         slip,
