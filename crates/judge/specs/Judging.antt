@@ -68,6 +68,7 @@ module _ (N : Model) (d : WholeTicks) (recording : List ℕ) where
     pub fits : Fits whole_had whole_admits whole_reach N d (shift_of course) ↔ (¬ (report.cause ≡ Overrun))
     pub by_runs : ¬ (report.cause ≡ Overrun) → ByRuns (kind WholeTicks whole_had whole_admits) N (trace_of course) (stage_of course)
 
+-- so it is, whatever stands for a bound that a row lacks
 abbrev pub Watched : Model → List ℕ → List ℕ → Type 0
 Watched N recording line = (d : WholeTicks) → WatchedBy N d recording line
 

@@ -26,6 +26,7 @@ module _ {B : Type 0} (had : ℕ → Type 0) (admits : B → ℕ → ℤ → Typ
       pub leaves : follow_leaves had admits reach N d follow ≡ stage
       pub fits : FitsFollow had admits reach N d follow
 
+    -- the shifts and follows that there are from this opening
     pub record Shows : Type 0 where
       pub stands : Fitting [] (standing (opened entries) unspent bs ls)
       -- it is closed, and passes
