@@ -24,7 +24,7 @@ const AREA: usize = 100;
 
 // Why the files are not watched to the end of the recording.
 #[derive(Clone, Copy, Debug, PartialEq, Eq)]
-pub enum Fault {
+pub(crate) enum Fault {
     // A file is too long, or the sheet or the recording is refused.
     Files(examine::Fault),
     Watch(WatchFault),
