@@ -196,7 +196,7 @@ impl Watch {
                 },
                 slip,
             ),
-            Waited::Broken(at, loosely) => {
+            Waited::Broken { at, loosely } => {
                 let tick = self.tick.saturating_sub(self.since) + at;
                 let verdict = if loosely {
                     Verdict::Fail
