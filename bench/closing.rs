@@ -77,6 +77,7 @@ fn zeros<T: Bound>(part: &[T], side: usize) -> bool {
     (0..side).all(|i| part[i * side + i].admits_zero())
 }
 
+#[inline(always)]
 fn relax<T: Bound>(part: &mut [T], side: usize, k: usize) -> bool {
     let floor = T::less_than(-1_000_000_000_000);
     for i in 0..side {
@@ -107,6 +108,7 @@ pub fn close<T: Bound>(part: &mut [T], side: usize) -> bool {
     true
 }
 
+#[inline(always)]
 fn relax_column<T: Bound>(part: &mut [T], side: usize, k: usize, b: usize) -> bool {
     let floor = T::less_than(-1_000_000_000_000);
     let r = part[k * side + b];
@@ -120,6 +122,7 @@ fn relax_column<T: Bound>(part: &mut [T], side: usize, k: usize, b: usize) -> bo
     true
 }
 
+#[inline(always)]
 fn close_over<T: Bound>(part: &mut [T], side: usize, b: usize) -> bool {
     part[b * side + b].admits_zero() && relax(part, side, b) && zeros(part, side)
 }
