@@ -4,6 +4,7 @@
 Each line printed is a candidate that has to be read: the page says what became of it.
 """
 import collections
+import itertools
 import pathlib
 import re
 import subprocess
@@ -68,9 +69,8 @@ PATTERNS = {
 }
 
 
-def main():
-    commit = sys.argv[1] if len(sys.argv) > 1 else None
-    files = list(sources(commit))
+def print_lines(files):
+    """The lines of src/ that a pattern finds, point by point."""
     for point, patterns in PATTERNS.items():
         found = []
         for path, text in files:
@@ -81,6 +81,18 @@ def main():
                     found.append(f"{path}:{n}: {line.strip()}")
         print(f"== point {point}: {len(found)} lines")
         print("\n".join(found))
+
+
+def print_often(found, least, what, words):
+    """What stands in so many functions or more, the most often first; `words` makes a text of it."""
+    often = {it: where for it, where in found.items() if len(where) >= least}
+    print(what(often))
+    for it, where in sorted(often.items(), key=lambda x: -len(x[1])):
+        print(f"{len(where)}: {words(it, where)}")
+
+
+def print_functions(files):
+    """Bodies of one shape, and clauses and pairs of parameters that several functions have."""
     shapes = collections.defaultdict(list)
     facts = collections.defaultdict(set)
     groups = collections.defaultdict(set)
@@ -93,28 +105,26 @@ def main():
             for clause in clauses:
                 facts[re.sub(r"^(requires|ensures\*?) *(\w+)? *", "", clause).replace(".now", "").replace(".old", "")].add(where)
             plain = [p for p in parameters if ":" in p and "self" not in p]
-            for a in range(len(plain)):
-                for b in range(a + 1, len(plain)):
-                    groups[(plain[a], plain[b])].add(where)
-    twins = {f: w for f, w in shapes.items() if len(w) > 1}
-    print(f"== point 2: {len(twins)} shapes of body that stand more than once, {sum(map(len, twins.values()))} functions")
-    for form, where in sorted(twins.items(), key=lambda x: -len(x[1])):
-        print(f"{len(where)}: {'; '.join(where)}")
-    many = {f: w for f, w in facts.items() if len(w) > 2}
-    print(f"== point 5, clauses in three or more functions: {len(many)}")
-    for fact, where in sorted(many.items(), key=lambda x: -len(x[1])):
-        print(f"{len(where)}: {fact}")
-    pairs = {g: w for g, w in groups.items() if len(w) > 2}
-    print(f"== point 5, pairs of parameters in three or more functions: {len(pairs)}")
-    for pair, where in sorted(pairs.items(), key=lambda x: -len(x[1])):
-        print(f"{len(where)}: {pair[0]}, {pair[1]}")
+            for a, b in itertools.combinations(range(len(plain)), 2):
+                groups[(plain[a], plain[b])].add(where)
+    print_often(shapes, 2, lambda f: f"== point 2: {len(f)} shapes of body that stand more than once, {sum(map(len, f.values()))} functions", lambda it, where: "; ".join(where))
+    print_often(facts, 3, lambda f: f"== point 5, clauses in three or more functions: {len(f)}", lambda it, where: it)
+    print_often(groups, 3, lambda f: f"== point 5, pairs of parameters in three or more functions: {len(f)}", lambda it, where: f"{it[0]}, {it[1]}")
+
+
+def asked_of_git(*words):
+    return subprocess.run(["git", *words], capture_output=True, text=True, check=True).stdout
+
+
+def print_answers(commit):
+    """How many lines the answers have, and the long ones that stand in three or more files."""
     answers = collections.Counter()
     total = 0
-    names = subprocess.run(["git", "ls-files", "crates"] if commit is None else ["git", "ls-tree", "-r", "--name-only", commit, "crates"], capture_output=True, text=True, check=True).stdout.split("\n")
-    for name in names:
+    names = asked_of_git("ls-files", "crates") if commit is None else asked_of_git("ls-tree", "-r", "--name-only", commit, "crates")
+    for name in names.split("\n"):
         if not name.endswith("Answers.antt"):
             continue
-        text = pathlib.Path(name).read_text() if commit is None else subprocess.run(["git", "show", f"{commit}:{name}"], capture_output=True, text=True, check=True).stdout
+        text = pathlib.Path(name).read_text() if commit is None else asked_of_git("show", f"{commit}:{name}")
         lines = [l.strip() for l in text.split("\n") if len(l.strip()) > 60 and not l.startswith(("use ", "pub ", "--"))]
         total += len(text.split("\n"))
         answers.update(set(lines))
@@ -122,6 +132,14 @@ def main():
     print(f"== point 8: {total} lines of answers; {len(often)} long lines that stand in three or more files")
     for line, n in sorted(often.items(), key=lambda x: -x[1]):
         print(f"{n}: {line[:160]}")
+
+
+def main():
+    commit = sys.argv[1] if len(sys.argv) > 1 else None
+    files = list(sources(commit))
+    print_lines(files)
+    print_functions(files)
+    print_answers(commit)
 
 
 main()

@@ -391,11 +391,6 @@ fn noise(rng: &mut Rng) -> Vec<u8> {
 /// A sheet whose counts and values are mostly the largest or the least there are, and sometimes one more.
 fn largest(rng: &mut Rng) -> Vec<u8> {
     let mut fields = Vec::new();
-    let most = |rng: &mut Rng, top: usize, least: usize| match rng.below(8) {
-        0 => least,
-        1 => least + rng.below(top - least + 1),
-        _ => top,
-    };
     let clocks = most(rng, 8, 0);
     let channels = most(rng, 32, 0);
     let processes = most(rng, 8, 1);
@@ -404,43 +399,13 @@ fn largest(rng: &mut Rng) -> Vec<u8> {
     let kinds: Vec<usize> = (0..channels).map(|_| if all_hidden { 2 } else { rng.below(3) }).collect();
     fields.extend(&kinds);
     fields.push(processes);
-    let mut sides = Vec::new();
-    let mut counts = Vec::new();
-    for _ in 0..processes {
-        sides.push(rng.below(2));
-        counts.push(most(rng, 16, 1));
-        fields.extend([sides[sides.len() - 1], counts[counts.len() - 1]]);
-        for _ in 0..counts[counts.len() - 1] {
-            let limits = if clocks == 0 { 0 } else { most(rng, 2, 0) };
-            fields.push(limits);
-            for _ in 0..limits {
-                let mark = rng.below(2);
-                fields.extend([1 + rng.below(clocks), mark, rng.pick(&[mark, 1, 2, 999_999, 1_000_000, 1_000_000, 1_000_000])]);
-            }
-        }
-    }
+    let owners: Vec<(usize, usize)> = (0..processes).map(|_| process(rng, &mut fields, clocks)).collect();
     let edges = most(rng, 128, 0);
     fields.push(edges);
     // Where few labels are in use, many edges move in pairs.
     let labels = rng.pick(&[1, 3, 2 * channels + 1, 2 * channels + 1]).min(2 * channels + 1);
     for _ in 0..edges {
-        let process = rng.below(processes);
-        let label = rng.below(labels);
-        // An input is sent by the environment, side 0, and received by the system; an output the other way.
-        let allowed = label == 0 || kinds[(label - 1) / 2] == 2 || (label % 2 == 1) == (kinds[(label - 1) / 2] == sides[process]);
-        let from = if rng.below(2) == 0 { 0 } else { rng.below(counts[process]) };
-        let to = rng.below(counts[process]);
-        fields.extend([process, from, to, if allowed { label } else { 0 }]);
-        let conditions = if clocks == 0 { 0 } else { most(rng, 4, 0) };
-        fields.push(conditions);
-        for _ in 0..conditions {
-            let left = rng.below(clocks + 1);
-            let right = (left + 1 + rng.below(clocks)) % (clocks + 1);
-            let c = rng.pick(&[0, 1, 999_999, 1_000_000, 1_000_001, 1_999_999, 2_000_000, 2_000_000, 2_000_000, 2_000_000]);
-            fields.extend([left, right, rng.below(2), c]);
-        }
-        let all = (1 << clocks) - 1;
-        fields.push(rng.pick(&[0, all, all]) & rng.pick(&[255, 255, 1, 85]));
+        edge(rng, &mut fields, clocks, labels, &kinds, &owners);
     }
     if rng.one_in(3) {
         let at = rng.below(fields.len());
@@ -451,4 +416,51 @@ fn largest(rng: &mut Rng) -> Vec<u8> {
         write(&mut sheet, field as u32);
     }
     sheet
+}
+
+/// Mostly the top.
+fn most(rng: &mut Rng, top: usize, least: usize) -> usize {
+    match rng.below(8) {
+        0 => least,
+        1 => least + rng.below(top - least + 1),
+        _ => top,
+    }
+}
+
+/// The fields of a process: its side, and how many locations it has.
+fn process(rng: &mut Rng, fields: &mut Vec<usize>, clocks: usize) -> (usize, usize) {
+    let side = rng.below(2);
+    let count = most(rng, 16, 1);
+    fields.extend([side, count]);
+    for _ in 0..count {
+        let limits = if clocks == 0 { 0 } else { most(rng, 2, 0) };
+        fields.push(limits);
+        for _ in 0..limits {
+            let mark = rng.below(2);
+            fields.extend([1 + rng.below(clocks), mark, rng.pick(&[mark, 1, 2, 999_999, 1_000_000, 1_000_000, 1_000_000])]);
+        }
+    }
+    (side, count)
+}
+
+/// The fields of an edge of one of the processes, which are given by side and count of locations.
+fn edge(rng: &mut Rng, fields: &mut Vec<usize>, clocks: usize, labels: usize, kinds: &[usize], owners: &[(usize, usize)]) {
+    let process = rng.below(owners.len());
+    let (side, count) = owners[process];
+    let label = rng.below(labels);
+    // An input is sent by the environment, side 0, and received by the system; an output the other way.
+    let allowed = label == 0 || kinds[(label - 1) / 2] == 2 || (label % 2 == 1) == (kinds[(label - 1) / 2] == side);
+    let from = if rng.below(2) == 0 { 0 } else { rng.below(count) };
+    let to = rng.below(count);
+    fields.extend([process, from, to, if allowed { label } else { 0 }]);
+    let conditions = if clocks == 0 { 0 } else { most(rng, 4, 0) };
+    fields.push(conditions);
+    for _ in 0..conditions {
+        let left = rng.below(clocks + 1);
+        let right = (left + 1 + rng.below(clocks)) % (clocks + 1);
+        let c = rng.pick(&[0, 1, 999_999, 1_000_000, 1_000_001, 1_999_999, 2_000_000, 2_000_000, 2_000_000, 2_000_000]);
+        fields.extend([left, right, rng.below(2), c]);
+    }
+    let all = (1 << clocks) - 1;
+    fields.push(rng.pick(&[0, all, all]) & rng.pick(&[255, 255, 1, 85]));
 }
