@@ -1,5 +1,7 @@
 #![tactic(auto)]
 
+ghost use Rattle.std.specs.Prelude.{◌≤◌, length, IfOk};
+
 use examine::{LONGEST, examine};
 use network::Network;
 use report::{refusal_line, write_line};
@@ -10,7 +12,9 @@ use std::io::Read;
 mod account;
 
 // A missing file reads as empty, and of a longer one no more than shows that it is too long.
-fn load(rt: &HostRuntime, path: &str) -> io::Result<Vec<u8>> {
+fn load(rt: &HostRuntime, path: &str) -> io::Result<Vec<u8>>
+    ensures within { IfOk result (λ bytes. length bytes.items ≤ 16385) }
+{
     let mut bytes = Vec::new(rt.alloc());
     match File::open(rt, path) {
         Ok(file) => {
@@ -19,6 +23,8 @@ fn load(rt: &HostRuntime, path: &str) -> io::Result<Vec<u8>> {
         Err(e) if e.kind() == io::ErrorKind::NotFound => {}
         Err(e) => return Err(e),
     }
+    // No contract knows what a file gives, so this alone shows that there is no more.
+    bytes.truncate(LONGEST + 1);
     Ok(bytes)
 }
 
