@@ -11,7 +11,7 @@ use Rattle.source.specs.declared.recorded.RecordingFault.{RecordingFault}
 use Rattle.source.specs.Reading.{items_at, ending_at}
 use Rattle.examine.specs.declared.Fault.{Fault}
 use Rattle.examine.specs.declared.Tally.{Tally}
-use Rattle.examine.specs.Refusals.{fault_document, fault_rule, fault_place}
+use Rattle.examine.specs.Answers.{fault_document, fault_rule, fault_place}
 use Rattle.examine.specs.Tallies.{capped, waits_in, sees_in, ticks_in}
 
 pub data Examined : Type 0 where

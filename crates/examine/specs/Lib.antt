@@ -1,3 +1,3 @@
 pub mod Tallies
-pub mod Refusals
+pub mod Answers
 pub mod Examining

@@ -2,7 +2,7 @@
 
 ghost use Rattle.std.specs.Prelude.{◌≡◌};
 ghost use Rattle.examine.specs.Tallies.{capped, waits_in, sees_in, ticks_in};
-ghost use Rattle.examine.specs.Refusals.{Refuses};
+ghost use Rattle.examine.specs.Answers.{Refuses};
 ghost use Rattle.examine.specs.Examining.{examined, examine_answer, RefusedLeaves};
 ghost use Rattle.examine.specs.declared.Fault.TheVariants.{Sheet, Recording};
 ghost use Rattle.network.specs.Answers.{sheet_case};

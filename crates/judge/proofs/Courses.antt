@@ -26,7 +26,7 @@ use Rattle.monitor.specs.Calls.{Opens, open_refused, opens}
 use Rattle.monitor.specs.Following.{Answer, ended, stopped_by_source, stopped_by_item, returned, stopped, meets_end, IsFault, Gives, at_end, at_fault, goes_on, ends, refuses, Follows, follow_without_rows, follows}
 use Rattle.monitor.specs.Shifts.{Stage, standing, closed, broken_off, taken, leaves, followed, follow_leaves, Reports, IsClosed, NoOverrun, VerdictsByRuns, FitsByCause}
 use Rattle.judge.specs.declared.Fault.{Fault}
-use Rattle.judge.specs.Refusals.{fault_of, refusal_of}
+use Rattle.judge.specs.Answers.{fault_of, refusal_of}
 use Rattle.judge.specs.Judging.{beside, Course, trace_of, stage_of, shift_of, WatchedBy}
 
 -- the rows of a judge hold forty entries of any sound network

@@ -18,7 +18,7 @@ use Rattle.monitor.specs.declared.watch.Watch.{Watch}
 use Rattle.monitor.specs.Calls.{Opens}
 use Rattle.monitor.specs.Following.{Answer, ended, stopped_by_source, stopped_by_item, returned, meets_end, Follows}
 use Rattle.monitor.specs.Shifts.{Stage, Shift, shift_opens, shift_follows, followed, follow_leaves, Fits, Reports, IsClosed, ByRuns}
-use Rattle.judge.specs.Refusals.{too_long_refusal, sheet_refusal, recording_refusal, watch_refusal}
+use Rattle.judge.specs.Answers.{too_long_refusal, sheet_refusal, recording_refusal, watch_refusal}
 
 -- the refusal that stands beside the report of a follow: that of the fault behind the items, or of the item, that stopped it
 abbrev pub beside : Result (Unit {0}) RecordingFault → Answer → Option Refusal

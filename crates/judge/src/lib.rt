@@ -6,7 +6,7 @@ ghost use Rattle.network.specs.Networks.{model_of};
 ghost use Rattle.report.specs.Line.{row_of};
 ghost use Rattle.examine.specs.declared.Fault.TheVariants.{Sheet, Recording};
 ghost use Rattle.judge.specs.declared.Fault.TheVariants.{Files, Watch};
-ghost use Rattle.judge.specs.Refusals.{fault_of, refusal_of, text_of};
+ghost use Rattle.judge.specs.Answers.{fault_of, refusal_of, text_of};
 ghost use Rattle.judge.specs.Judging.{Watched, Judged};
 
 use examine::LONGEST;

@@ -4,7 +4,7 @@ use Rattle.report.specs.Line.{refusal_text, report_text, row_of}
 use Rattle.report.specs.declared.Refusal.{Refusal}
 use Rattle.report.specs.declared.Report.{Report}
 use Rattle.judge.specs.declared.Fault.{Fault}
-use Rattle.judge.specs.Refusals.{text_of}
+use Rattle.judge.specs.Answers.{text_of}
 use Rattle.judge.specs.Judging.{Judged}
 use Rattle.judge.proofs.judge.Goals as goal
 

@@ -6,7 +6,7 @@ use Rattle.network.specs.Networks.{model_of}
 use Rattle.report.specs.Line.{row_of}
 use Rattle.report.specs.declared.Report.{Report}
 use Rattle.judge.specs.declared.Fault.{Fault}
-use Rattle.judge.specs.Refusals.{text_of}
+use Rattle.judge.specs.Answers.{text_of}
 use Rattle.judge.specs.Judging.{sheet_refused, watched}
 use Rattle.judge.proofs.run.Goals as goal
 

@@ -1,6 +1,6 @@
 -- The refusals that a run may come to, and the texts that it writes.
 use Rattle.std.specs.Prelude.{ℕ, List, Option, Some, None, Result, Ok, Err}
-use Rattle.examine.specs.Refusals.{fault_document, fault_rule, fault_place}
+use Rattle.examine.specs.Answers.{fault_document, fault_rule, fault_place}
 use Rattle.monitor.specs.Replies.{fault_values}
 use Rattle.monitor.specs.declared.fault.WatchFault.{WatchFault}
 use Rattle.monitor.specs.declared.follow.Stop.{Stop}
